@@ -1,0 +1,4 @@
+//! Kinds of records, the book that numbers them, and the numbers of refused calls.
+
+pub mod numbers;
+pub mod refusal;
