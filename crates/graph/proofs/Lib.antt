@@ -1,0 +1,9 @@
+pub mod Reach
+pub mod Order
+pub mod Prune
+pub mod Changes
+pub mod Laws
+pub mod Live
+pub mod Accepted
+pub mod Shown
+pub mod Views
