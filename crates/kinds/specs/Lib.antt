@@ -1,2 +1,4 @@
 pub mod Shapes
 pub mod Refusals
+pub mod Written
+pub mod Rows
