@@ -2,3 +2,4 @@ pub mod Shapes
 pub mod Refusals
 pub mod Written
 pub mod Rows
+pub mod Read

@@ -1,9 +1,9 @@
 -- The shape that the numbers of a row stand for.
-use mathlib.Core.Path.{_≡_}
-use mathlib.Core.List.{List, [], _∷_, map}
-use mathlib.Core.Bool.{true}
-use Prim.Native.Nat.{ℕ, _<_}
-use lib.ListN.{take, getD}
+use mathlib.Core.List.{List, [], _∷_}
+use mathlib.Core.Bool.{Bool, _&&_}
+use Prim.Native.Nat.{ℕ}
+use lib.Dec.{leb}
+use lib.ListN.{take}
 use Rattle.kinds.specs.declared.row.Row.{Row}
 use Rattle.kinds.specs.Shapes.{Shape, lawful}
 
@@ -17,3 +17,7 @@ row-runs r = take (r .runs) (places r)
 
 abbrev pub row-shape : Row → Shape
 row-shape r = record { fields = r .fields; runs = row-runs r }
+
+-- The rules, as a row keeps them: it names at most four runs, and its shape is lawful.
+abbrev pub row-lawful : Row → Bool
+row-lawful r = leb (r .runs) 4 && lawful (row-shape r)

@@ -17,15 +17,16 @@ pairs [] = Some []
 pairs (offset ∷ []) = None
 pairs (offset ∷ (length ∷ rest)) = preceded (offset, length) (pairs rest)
 
--- A shape, if it keeps the rules.
-abbrev pub checked : Shape → Option Shape
-checked s = cond (lawful s) (Some s) None
+-- The shape of these runs, if they could be read and the shape passes the test.
+abbrev pub passing : (Shape → Bool) → ℕ → Option (List (ℕ × ℕ)) → Option Shape
+passing test fields None = None
+passing test fields (Some runs) = cond (test (record { fields = fields; runs = runs })) (Some (record { fields = fields; runs = runs })) None
 
-abbrev pub checked-runs : ℕ → Option (List (ℕ × ℕ)) → Option Shape
-checked-runs fields None = None
-checked-runs fields (Some runs) = checked (record { fields = fields; runs = runs })
+-- The shape that the numbers write, if they write one and it passes the test.
+abbrev pub read-by : (Shape → Bool) → List ℕ → Option Shape
+read-by test [] = None
+read-by test (fields ∷ rest) = passing test fields (pairs rest)
 
 -- The kind that the numbers write; none if they write no kind.
 abbrev pub written : List ℕ → Option Shape
-written [] = None
-written (fields ∷ rest) = checked-runs fields (pairs rest)
+written numbers = read-by lawful numbers

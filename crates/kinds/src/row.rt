@@ -1,5 +1,7 @@
 //! What a book keeps of one kind, as plain numbers.
 
+pub mod reading;
+pub mod rules;
 pub mod runs;
 
 /// The most fields that a kind has.

@@ -29,7 +29,7 @@ impl Row {
     }
 
     /// The offset and the length in place `j`.
-    fn run(&self, j: u32) -> (u32, u32)
+    pub(super) fn run(&self, j: u32) -> (u32, u32)
         ensures { λ r. ⌜ r ≡ getD (places (now (self .entry))) j (0, 0) ⌝ }
     {
         match j {
@@ -42,7 +42,7 @@ impl Row {
     }
 
     /// Adds a run after the others; a fifth has no place.
-    fn push(&mut self, offset: u32, length: u32)
+    pub(super) fn push(&mut self, offset: u32, length: u32)
         requires { ⌜ now self .runs < 4 ⌝ }
         ensures fields { λ _. ⌜ now (self .exit) .fields ≡ now (self .entry) .fields ⌝ }
         ensures count { λ _. ⌜ now (self .exit) .runs ≡ now (self .entry) .runs + 1 ⌝ }
