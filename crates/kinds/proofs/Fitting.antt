@@ -1,14 +1,14 @@
 -- The runs of a row, one by one.
 use mathlib.Core.Path.{_≡_, refl, sym, ap, _∙_}
 use mathlib.Core.List.{List, [], _∷_}
-use mathlib.Core.Bool.{Bool, true, false, _&&_}
+use mathlib.Core.Bool.{Bool, true, false, _&&_, _||_}
 use Prim.Native.Nat.{ℕ, _+_, _<_, _≤_, min}
 use native.Mathlib.Omega.{arith}
 use lib.ListN.{length, take, drop, getD}
-use lib.Dec.{leb}
+use lib.Dec.{leb, ltb}
 use Rattle.std.proofs.shelf.Lists.{length-take, getD-take, drop-more, drop-all}
 use Rattle.kinds.specs.declared.row.Row.{Row}
-use Rattle.kinds.specs.Shapes.{runs-fit}
+use Rattle.kinds.specs.Shapes.{within, runs-fit}
 use Rattle.kinds.specs.Rows.{places, row-runs}
 
 pub length-runs : (r : Row) → r .runs ≤ 4 → length (row-runs r) ≡ r .runs
@@ -36,3 +36,7 @@ shared false b c d = refl
 -- Runs fit just if the first fits and those after it do.
 pub fits-first : (low fields : ℕ) (p : ℕ × ℕ) (rs : List (ℕ × ℕ)) (t : Bool) → t ≡ (leb low (p .0) && (leb 1 (p .1) && leb (p .0 + p .1) fields)) → runs-fit low fields (p ∷ rs) ≡ (t && runs-fit (p .0 + p .1 + 1) fields rs)
 fits-first low fields p rs t e = shared (leb low (p .0)) (leb 1 (p .1)) (leb (p .0 + p .1) fields) (runs-fit (p .0 + p .1 + 1) fields rs) ∙ ap (λ x. x && runs-fit (p .0 + p .1 + 1) fields rs) (sym e)
+
+-- A field lies in one of the runs just if it lies in the first or in one after it.
+pub within-first : (p : ℕ × ℕ) (rs : List (ℕ × ℕ)) (i : ℕ) (t : Bool) → t ≡ (leb (p .0) i && ltb i (p .0 + p .1)) → within (p ∷ rs) i ≡ (t || within rs i)
+within-first p rs i t e = ap (λ x. x || within rs i) (sym e)

@@ -3,3 +3,4 @@ pub mod Refusals
 pub mod Written
 pub mod Rows
 pub mod Read
+pub mod Kinds

@@ -1,5 +1,6 @@
 //! What a book keeps of one kind, as plain numbers.
 
+pub mod questions;
 pub mod reading;
 pub mod rules;
 pub mod runs;
