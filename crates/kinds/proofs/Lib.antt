@@ -1,2 +1,5 @@
 mod Reading
 mod Fitting
+mod Listing
+mod Adding
+pub mod Sealed

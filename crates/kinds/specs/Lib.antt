@@ -4,3 +4,5 @@ pub mod Written
 pub mod Rows
 pub mod Read
 pub mod Kinds
+pub mod Said
+pub mod Books

@@ -1,5 +1,6 @@
 //! Kinds of records, the book that numbers them, and the numbers of refused calls.
 
+pub mod book;
 pub mod kind;
 pub mod numbers;
 pub mod refusal;

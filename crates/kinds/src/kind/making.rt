@@ -5,21 +5,21 @@ use crate::refusal::Refusal;
 use crate::row::Row;
 
 ghost use mathlib.Core.Path.{_≡_};
-ghost use mathlib.Core.Bool.{cond};
 ghost use Rattle.kinds.specs.Written.{written};
-ghost use Rattle.kinds.specs.Kinds.{said, accepted, kind-at-row};
+ghost use Rattle.kinds.specs.Said.{said};
+ghost use Rattle.kinds.specs.Kinds.{shape-of, accepted, row-kind};
 
 impl Kind {
     /// The kind of a row that keeps the rules.
     pub fn from_row(row: Row) -> Result<Kind, Refusal>
-        ensures { λ r. ⌜ said r ≡ accepted (kind-at-row row) ⌝ }
+        ensures { λ r. ⌜ said shape-of r ≡ accepted (row-kind row) ⌝ }
     {
         if row.lawful() { Ok(Kind { row }) } else { Err(Refusal::BadKind) }
     }
 
     /// The kind that the numbers write: the number of fields, then pairs of offset and length.
     pub fn new(numbers: &[u32]) -> Result<Kind, Refusal>
-        ensures { λ r. ⌜ said r ≡ accepted (written (now (numbers .entry))) ⌝ }
+        ensures { λ r. ⌜ said shape-of r ≡ accepted (written (now (numbers .entry))) ⌝ }
     {
         match Row::read(numbers) {
             Some(row) => Kind::from_row(row),
