@@ -2,4 +2,5 @@ mod Reading
 mod Fitting
 mod Listing
 mod Adding
+pub mod Ruling
 pub mod Sealed

@@ -6,3 +6,4 @@ pub mod Read
 pub mod Kinds
 pub mod Said
 pub mod Books
+pub mod Laws

@@ -2,6 +2,7 @@
 
 pub mod book;
 pub mod kind;
+pub mod laws;
 pub mod numbers;
 pub mod refusal;
 pub mod row;
