@@ -29,9 +29,10 @@ none-accepted None n e = (refl, cc)
 
 -- A kind is added to a book with room; nothing else is.
 pub add-done : (l : List Shape) (o : Option Shape) (s : Shape) → length l < 16 → o ≡ Some s → (numbered l o ≡ Ok (length l)) × (extended l o ≡ l ++ (s ∷ []))
-add-done l o s h e =
-    (ap (numbered l) e ∙ cond-true (ltb (length l) 16) _ _ (lt-ltb _ 16 h),
-        ap (extended l) e ∙ cond-true (ltb (length l) 16) _ _ (lt-ltb _ 16 h))
+add-done l o s h e = (
+  ap (numbered l) e ∙ cond-true (ltb (length l) 16) _ _ (lt-ltb _ 16 h),
+  ap (extended l) e ∙ cond-true (ltb (length l) 16) _ _ (lt-ltb _ 16 h),
+)
 
 pub add-none : (l : List Shape) (o : Option Shape) → o ≡ None → (numbered l o ≡ Err 11) × (extended l o ≡ l)
 add-none l o e = (ap (numbered l) e, ap (extended l) e)

@@ -6,20 +6,21 @@ use mathlib.Core.Logic.{_≢_}
 use Prim.Native.Nat.{ℕ, _+_, _<_, _≤_}
 use native.Mathlib.Omega.{arith}
 use borrow.Author.Count.{below-more}
-use lib.Dec.{ltb}
 use lib.ListN.{length, take, getD, set}
-use Rattle.std.proofs.shelf.Lists.{length-map, length-take-le, getD-map, getD-take, take-more-set, map-push, getD-set-same, getD-set-other}
-use Rattle.std.proofs.shelf.Tests.{cond-true, cond-false, lt-ltb, le-ltb}
+use Rattle.std.proofs.shelf.Lists.{length-map, length-take, length-take-le, getD-map, getD-take, take-more-set, map-push, length-push, getD-set-same, getD-set-other}
+use Rattle.std.proofs.shelf.Tests.{cond-true}
 use Rattle.std.specs.declared.option.Option.the-variants.{Some, None}
-use Rattle.std.specs.declared.result.Result.the-variants.{Ok, Err}
 use Rattle.kinds.specs.declared.row.Row.{Row}
 use Rattle.kinds.specs.Shapes.{Shape, no-shape}
 use Rattle.kinds.specs.Rows.{row-shape, row-lawful, no-row, Lawful-rows, shapes}
-use Rattle.kinds.specs.Kinds.{accepted, row-kind}
-use Rattle.kinds.specs.Books.{looked-up}
+use Rattle.kinds.specs.Kinds.{row-kind}
 
 pub length-shapes : (rows : List Row) (count : ℕ) → count ≤ length rows → length (shapes rows count) ≡ count
 length-shapes rows count h = length-map (take count rows) row-shape ∙ length-take-le count rows h
+
+-- As many shapes as the count says, so as many rows at least.
+pub rows-counted : (rows : List Row) (count : ℕ) → length (shapes rows count) ≡ count → count ≤ length rows
+rows-counted rows count h = omega (arith, length-map (take count rows) row-shape, length-take count rows)
 
 pub getD-shapes : (rows : List Row) (count k : ℕ) → count ≤ length rows → k < count → getD (shapes rows count) k no-shape ≡ row-shape (getD rows k no-row)
 getD-shapes rows count k h l =
@@ -36,15 +37,11 @@ lawful-more rows count r h sound new =
     (λ k l. let ne : k ≢ count = omega arith in rw getD-set-other (sound k l))
     (rw getD-set-same new)
 
--- A look-up below the count gives the kind of the row, and no kind past it.
-pub looked-up-row : (rows : List Row) (count k : ℕ) → count ≤ length rows → k < count → Lawful-rows rows count → accepted (row-kind (getD rows k no-row)) ≡ looked-up (shapes rows count) k
-looked-up-row rows count k h l sound =
-    let n = length-shapes rows count h in
-    ap accepted (cond-true (row-lawful (getD rows k no-row)) (Some (row-shape (getD rows k no-row))) None (sound k l)) ∙
-    ap (λ (s : Shape). Ok s) (sym (getD-shapes rows count k h l)) ∙
-    sym (cond-true (ltb k (length (shapes rows count))) _ _ (lt-ltb k _ (omega arith)))
+-- A row below the count has the kind in its place.
+pub row-kind-at : (rows : List Row) (count k : ℕ) → count ≤ length rows → k < count → Lawful-rows rows count → row-kind (getD rows k no-row) ≡ Some (getD (shapes rows count) k no-shape)
+row-kind-at rows count k h l sound =
+    cond-true (row-lawful (getD rows k no-row)) (Some (row-shape (getD rows k no-row))) None (sound k l) ∙
+    ap (λ (s : Shape). Some s) (sym (getD-shapes rows count k h l))
 
-pub looked-up-past : (rows : List Row) (count k : ℕ) → count ≤ length rows → count ≤ k → Err 2 ≡ looked-up (shapes rows count) k
-looked-up-past rows count k h l =
-    let n = length-shapes rows count h in
-    sym (cond-false (ltb k (length (shapes rows count))) _ _ (le-ltb k _ (omega arith)))
+pub counted-more : (rows : List Row) (count : ℕ) (r : Row) → count < length rows → length (shapes rows count) ≡ count → length (shapes (set rows count r) (count + 1)) ≡ count + 1
+counted-more rows count r h e = ap length (shapes-more rows count r h) ∙ length-push (shapes rows count) (row-shape r) ∙ ap (λ n. n + 1) e

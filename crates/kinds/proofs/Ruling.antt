@@ -46,12 +46,12 @@ fit-from low fields [] first some inside apart = refl
 fit-from low fields (r ∷ rs) first some inside apart =
     and-from (leb low (r .0)) _ (le-leb low (r .0) (first (omega arith)))
     (and-from (leb 1 (r .1)) _ (le-leb 1 (r .1) (some 0 (omega arith)))
-        (and-from (leb (r .0 + r .1) fields) _ (le-leb (r .0 + r .1) fields (inside 0 (omega arith)))
-            (fit-from (r .0 + r .1 + 1) fields rs
-                (λ l. omega (arith, apart 0 (omega arith)))
-                (λ j l. some (suc j) (omega arith))
-                (λ j l. inside (suc j) (omega arith))
-                (λ j l. apart (suc j) (omega arith)))))
+    (and-from (leb (r .0 + r .1) fields) _ (le-leb (r .0 + r .1) fields (inside 0 (omega arith)))
+    (fit-from (r .0 + r .1 + 1) fields rs
+    (λ l. omega (arith, apart 0 (omega arith)))
+    (λ j l. some (suc j) (omega arith))
+    (λ j l. inside (suc j) (omega arith))
+    (λ j l. apart (suc j) (omega arith)))))
 
 below-of : (low fields : ℕ) (rs : List (ℕ × ℕ)) (i : ℕ) → runs-fit low fields rs ≡ true → within rs i ≡ true → i < fields
 below-of low fields [] i h w = absurd (false≢true w)
@@ -71,17 +71,18 @@ pub keeps : (s : Shape) → lawful s ≡ true → Lawful s
 keeps s h =
     let f = rules s h .2 in
     record {
-        few-fields = rules s h .0;
-        few-runs = rules s h .1;
-        not-empty = not-empty-of 0 (s .fields) (s .runs) f;
-        inside = inside-of 0 (s .fields) (s .runs) f;
-        apart = apart-of 0 (s .fields) (s .runs) f }
+      few-fields = rules s h .0;
+      few-runs = rules s h .1;
+      not-empty = not-empty-of 0 (s .fields) (s .runs) f;
+      inside = inside-of 0 (s .fields) (s .runs) f;
+      apart = apart-of 0 (s .fields) (s .runs) f;
+    }
 
 pub passes : (s : Shape) → Lawful s → lawful s ≡ true
 passes s h =
     and-from (leb (s .fields) 62) _ (le-leb (s .fields) 62 (h .few-fields))
     (and-from (leb (length (s .runs)) 4) _ (le-leb (length (s .runs)) 4 (h .few-runs))
-        (fit-from 0 (s .fields) (s .runs) (λ l. omega arith) (h .not-empty) (h .inside) (h .apart)))
+    (fit-from 0 (s .fields) (s .runs) (λ l. omega arith) (h .not-empty) (h .inside) (h .apart)))
 
 pub below : (s : Shape) (i : ℕ) → lawful s ≡ true → within (s .runs) i ≡ true → i < s .fields
 below s i h w = below-of 0 (s .fields) (s .runs) i (rules s h .2) w

@@ -1,11 +1,10 @@
 //! The book of kinds: open to more kinds, and sealed.
 
 use crate::row::Row;
-
 ghost use mathlib.Core.Path.{_≡_};
 ghost use Prim.Native.Nat.{_≤_};
 ghost use lib.ListN.{length};
-ghost use Rattle.kinds.specs.Rows.{Lawful-rows};
+ghost use Rattle.kinds.specs.Rows.{Lawful-rows, shapes};
 
 pub mod adding;
 pub mod looking;
@@ -19,8 +18,8 @@ pub const MAX_KINDS: usize = 16;
 pub struct Book {
     rows: [Row; MAX_KINDS],
     count: u32,
-    ghost whole: { length rows ≡ 16 },
     ghost few: { count ≤ 16 },
+    ghost counted: { length (shapes rows count) ≡ count },
     ghost sound: { Lawful-rows rows count },
 }
 
@@ -29,7 +28,7 @@ pub struct Book {
 pub struct SealedBook {
     rows: [Row; MAX_KINDS],
     count: u32,
-    ghost whole: { length rows ≡ 16 },
     ghost few: { count ≤ 16 },
+    ghost counted: { length (shapes rows count) ≡ count },
     ghost sound: { Lawful-rows rows count },
 }

@@ -1,7 +1,6 @@
 //! A kind of record: a row that keeps the rules.
 
 use crate::row::Row;
-
 ghost use mathlib.Core.Path.{_≡_};
 ghost use mathlib.Core.Bool.{true};
 ghost use Rattle.kinds.specs.Rows.{row-lawful};

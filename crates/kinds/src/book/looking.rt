@@ -3,12 +3,14 @@
 use super::SealedBook;
 use crate::kind::Kind;
 use crate::refusal::Refusal;
-
+use crate::row::Row;
 ghost use mathlib.Core.Path.{_≡_};
-ghost use Prim.Native.Nat.{_≤_};
-ghost use lib.ListN.{length};
+ghost use Prim.Native.Nat.{_<_, _≤_};
+ghost use lib.ListN.{length, getD};
+ghost use Rattle.std.specs.declared.option.Option.the-variants.{Some};
+ghost use Rattle.kinds.specs.Shapes.{no-shape};
 ghost use Rattle.kinds.specs.Said.{said};
-ghost use Rattle.kinds.specs.Kinds.{shape-of};
+ghost use Rattle.kinds.specs.Kinds.{shape-of, row-kind};
 ghost use Rattle.kinds.specs.Books.{kinds-of, looked-up};
 
 impl SealedBook {
@@ -20,13 +22,22 @@ impl SealedBook {
         self.count
     }
 
-    /// The kind of number `k`.
+    /// The row of a number below the number of kinds.
+    fn row(&self, k: u32) -> Row
+        requires { ⌜ k < length (kinds-of (now self)) ⌝ }
+        ensures { λ r. ⌜ row-kind r ≡ Some (getD (kinds-of (now (self .entry))) k no-shape) ⌝ }
+    {
+        self.rows[k as usize]
+    }
+
+    /// The kind of number `k`, from its row, after a check of that.
     pub fn kind(&self, k: u32) -> Result<Kind, Refusal>
         ensures { λ r. ⌜ said shape-of r ≡ looked-up (kinds-of (now (self .entry))) k ⌝ }
     {
-        if k >= self.count {
-            return Err(Refusal::NoKind);
+        if k < self.kinds() {
+            Kind::from_row(self.row(k))
+        } else {
+            Err(Refusal::NoKind)
         }
-        Kind::from_row(self.rows[k as usize])
     }
 }

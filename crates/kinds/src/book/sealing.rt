@@ -2,7 +2,6 @@
 
 use super::Book;
 use super::SealedBook;
-
 ghost use mathlib.Core.Path.{_≡_};
 ghost use Rattle.kinds.specs.Books.{book-list, kinds-of};
 

@@ -3,7 +3,6 @@
 use super::Kind;
 use crate::refusal::Refusal;
 use crate::row::Row;
-
 ghost use mathlib.Core.Path.{_≡_};
 ghost use Rattle.kinds.specs.Written.{written};
 ghost use Rattle.kinds.specs.Said.{said};
@@ -14,7 +13,11 @@ impl Kind {
     pub fn from_row(row: Row) -> Result<Kind, Refusal>
         ensures { λ r. ⌜ said shape-of r ≡ accepted (row-kind row) ⌝ }
     {
-        if row.lawful() { Ok(Kind { row }) } else { Err(Refusal::BadKind) }
+        if row.lawful() {
+            Ok(Kind { row })
+        } else {
+            Err(Refusal::BadKind)
+        }
     }
 
     /// The kind that the numbers write: the number of fields, then pairs of offset and length.

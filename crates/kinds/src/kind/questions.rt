@@ -2,7 +2,6 @@
 
 use super::Kind;
 use crate::row::Row;
-
 ghost use mathlib.Core.Path.{_≡_};
 ghost use Prim.Native.Nat.{_≤_};
 ghost use Rattle.kinds.specs.Shapes.{within};

@@ -1,7 +1,6 @@
 //! What a row says of its fields.
 
 use super::Row;
-
 ghost use mathlib.Core.Path.{_≡_};
 ghost use mathlib.Core.Bool.{_&&_};
 ghost use Prim.Native.Nat.{_≤_, _+_};

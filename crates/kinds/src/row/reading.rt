@@ -2,7 +2,6 @@
 
 use super::MAX_RUNS;
 use super::Row;
-
 ghost use mathlib.Core.Path.{_≡_};
 ghost use Rattle.kinds.specs.Read.{row-read, taken, Placed};
 

@@ -3,7 +3,6 @@
 use super::MAX_FIELDS;
 use super::MAX_RUNS;
 use super::Row;
-
 ghost use mathlib.Core.Path.{_≡_};
 ghost use mathlib.Core.Bool.{_&&_};
 ghost use Prim.Native.Nat.{_<_, _≤_, _+_};
