@@ -1,7 +1,6 @@
 //! The number that each refusal returns.
 
 use crate::refusal::Refusal;
-
 ghost use mathlib.Core.Path.{_≡_};
 ghost use Rattle.kinds.specs.Refusals.{code};
 

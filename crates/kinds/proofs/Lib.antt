@@ -1,0 +1,6 @@
+mod Reading
+mod Fitting
+mod Listing
+mod Adding
+pub mod Ruling
+pub mod Sealed
