@@ -1,6 +1,6 @@
 -- What a heap means, and what a call on it answers and leaves.
 use mathlib.Core.Path.{_≡_}
-use mathlib.Core.List.{List, []}
+use mathlib.Core.List.{List, [], map}
 use Prim.Native.Nat.{ℕ, _+_, _<_, _≤_}
 use lib.ListN.{length, replicate}
 use Rattle.kinds.specs.Shapes.{Shape}
@@ -67,3 +67,7 @@ pub record Opened (first : ℕ) (m : Meaning) : Type 0 where
   pub next : m .graph .next ≡ first
   pub spare : m .spare ≡ m .capacity
   pub due : m .due ≡ 0
+
+-- The charge of a kind in a heap that keeps number and kind in two words before the fields.
+abbrev pub headed-charges : List Shape → List ℕ
+headed-charges book = map (λ k. 2 + k .fields) book

@@ -1,0 +1,9 @@
+pub mod Clearing
+pub mod Walk
+pub mod Wholes
+pub mod Reading
+pub mod Changing
+pub mod Making
+pub mod Calling
+pub mod Openings
+pub mod Answering

@@ -1,0 +1,4 @@
+//! The straight heap: records one after another in lent words, never freed.
+
+pub mod heap;
+mod store;

@@ -1,0 +1,23 @@
+//! Words and registers of a straight heap.
+
+use kinds::book::SealedBook;
+
+pub mod actions;
+pub mod opening;
+pub mod questions;
+pub mod words;
+
+/// The most slots that a heap has.
+pub const MAX_SLOTS: usize = 64;
+
+/// The lent words, the slots, and the registers.
+#[derive(Drop)]
+pub struct Store<'m> {
+    pub(crate) memory: &'m mut [u32],
+    pub(crate) slots: [u32; MAX_SLOTS],
+    pub(crate) count: u32,
+    pub(crate) room: u32,
+    pub(crate) top: u32,
+    pub(crate) next: u64,
+    pub(crate) book: SealedBook,
+}
