@@ -10,7 +10,7 @@ ghost use Rattle.kinds.specs.Rows.{row-runs, places};
 
 impl Row {
     /// A row with so many fields and no run.
-    pub fn new(fields: u32) -> Row
+    pub(crate) fn new(fields: u32) -> Row
         ensures fields { λ r. ⌜ r .fields ≡ fields ⌝ }
         ensures runs { λ r. ⌜ r .runs ≡ 0 ⌝ }
     {

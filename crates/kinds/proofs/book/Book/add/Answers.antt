@@ -7,6 +7,7 @@ use Rattle.kinds.proofs.book.Book.add.Needs as need
 pub returns-then-number-ge-MAX-KINDS : need.returns-then-number-ge-MAX-KINDS
 returns-then-number-ge-MAX-KINDS c =
     record {
-        answer = full-answer (book-list (c .args .self .now)) _ _ (omega arith) (c .in-Continue-kind .ensures tt);
-        list = full-list (book-list (c .args .self .now)) _ _ (omega arith) (c .in-Continue-kind .ensures tt);
-        kept = λ _. refl }
+      answer = full-answer (book-list (c .args .self .now)) _ _ (omega arith) (c .in-Continue-kind .ensures tt);
+      list = full-list (book-list (c .args .self .now)) _ _ (omega arith) (c .in-Continue-kind .ensures tt);
+      kept = λ _. refl;
+    }
