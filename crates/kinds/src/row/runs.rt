@@ -1,10 +1,9 @@
 //! A row's runs, one by one.
 
-use super::MAX_RUNS;
 use super::Row;
 ghost use mathlib.Core.Path.{_≡_};
 ghost use mathlib.Core.List.{[], _∷_, _++_};
-ghost use Prim.Native.Nat.{_<_, _≤_, _+_};
+ghost use Prim.Native.Nat.{_<_, _+_};
 ghost use lib.ListN.{getD};
 ghost use Rattle.kinds.specs.Rows.{row-runs, places};
 
