@@ -1,15 +1,11 @@
 -- Reading a slice pair by pair: the runs so far, and those that the rest of the slice writes.
-use mathlib.Core.Path.{_≡_, refl, sym, ap, _∙_}
-use mathlib.Core.List.{List, [], _∷_, _++_, append-nil, append-assoc}
-use mathlib.Core.Bool.{Bool, true, false, cond}
-use Prim.Native.Nat.{ℕ, zero, suc, _+_, _<_, _≤_}
+use mathlib.Core.Path.{_≡_, refl, ap}
+use mathlib.Core.List.{List, [], _∷_, _++_, append-assoc}
+use Prim.Native.Nat.{ℕ, _≤_}
 use native.Mathlib.Omega.{arith}
-use lib.ListN.{length, length-append, getD, drop}
-use lib.Dec.{leb}
-use Rattle.std.proofs.shelf.Tests.{cond-true, cond-false, le-leb, lt-leb}
+use lib.ListN.{length, getD, drop}
 use Rattle.std.specs.declared.option.Option.{Option}
 use Rattle.std.specs.declared.option.Option.the-variants.{Some, None}
-use Rattle.kinds.specs.Shapes.{Shape}
 use Rattle.kinds.specs.Written.{preceded, pairs, passing}
 use Rattle.kinds.specs.Read.{has-row, taken}
 
@@ -25,15 +21,6 @@ before-none (Some ys) = refl
 pub before-more : (xs : List (ℕ × ℕ)) (r : ℕ × ℕ) (o : Option (List (ℕ × ℕ))) → before (xs ++ (r ∷ [])) o ≡ before xs (preceded r o)
 before-more xs r None = refl
 before-more xs r (Some ys) = ap (λ zs. Some zs) (append-assoc xs (r ∷ []) ys)
-
--- No row has a fifth run.
-pub fifth : (fields : ℕ) (xs : List (ℕ × ℕ)) (r : ℕ × ℕ) (o : Option (List (ℕ × ℕ))) → 4 ≤ length xs → passing has-row fields (before xs (preceded r o)) ≡ None
-fifth fields xs r None h = refl
-fifth fields xs r (Some ys) h = cond-false (leb (length (xs ++ (r ∷ ys))) 4) _ _ (lt-leb _ 4 (simp length-append (omega arith)))
-
--- The end of the slice.
-pub ended : (fields : ℕ) (xs : List (ℕ × ℕ)) → length xs ≤ 4 → passing has-row fields (before xs (pairs [])) ≡ Some (record { fields = fields; runs = xs })
-ended fields xs h = ap (λ zs. passing has-row fields (Some zs)) (append-nil xs) ∙ cond-true (leb (length xs) 4) _ _ (le-leb _ 4 h)
 
 -- The start of the reading, and one turn of it.
 pub opens : (numbers tail : List ℕ) (fields : ℕ) (xs : List (ℕ × ℕ)) → 1 ≤ length numbers → tail ≡ drop 1 numbers → fields ≡ getD numbers 0 0 → xs ≡ [] → passing has-row fields (before xs (pairs tail)) ≡ taken numbers

@@ -1,11 +1,9 @@
 -- The kinds of a book in their order, and what calls on a book answer.
 use mathlib.Core.List.{List, [], _∷_, _++_}
-use mathlib.Core.Bool.{Bool, cond}
+use mathlib.Core.Bool.{cond}
 use Prim.Native.Nat.{ℕ}
 use lib.ListN.{length, getD}
 use lib.Dec.{ltb}
-use Rattle.std.specs.declared.option.Option.{Option}
-use Rattle.std.specs.declared.option.Option.the-variants.{Some, None}
 use Rattle.std.specs.declared.result.Result.{Result}
 use Rattle.std.specs.declared.result.Result.the-variants.{Ok, Err}
 use Rattle.kinds.specs.declared.book.Book.{Book}
@@ -19,15 +17,15 @@ book-list b = shapes (b .rows) (b .count)
 abbrev pub kinds-of : SealedBook → List Shape
 kinds-of b = shapes (b .rows) (b .count)
 
--- The number that a kind gets in a book of these kinds; 11 where there is no kind, and in a full book.
-abbrev pub numbered : List Shape → Option Shape → Result ℕ ℕ
-numbered kinds None = Err 11
-numbered kinds (Some s) = cond (ltb (length kinds) 16) (Ok (length kinds)) (Err 11)
+-- The number that an accepted kind gets in a book of these kinds. A full book refuses it, by 11.
+abbrev pub numbered : List Shape → Result Shape ℕ → Result ℕ ℕ
+numbered kinds (Ok s) = cond (ltb (length kinds) 16) (Ok (length kinds)) (Err 11)
+numbered kinds (Err n) = Err n
 
--- The kinds after one is added.
-abbrev pub extended : List Shape → Option Shape → List Shape
-extended kinds None = kinds
-extended kinds (Some s) = cond (ltb (length kinds) 16) (kinds ++ (s ∷ [])) kinds
+-- The kinds after it. A refused kind leaves them as they were.
+abbrev pub extended : List Shape → Result Shape ℕ → List Shape
+extended kinds (Ok s) = cond (ltb (length kinds) 16) (kinds ++ (s ∷ [])) kinds
+extended kinds (Err n) = kinds
 
 -- The kind of a number; 2 where the book has none.
 abbrev pub looked-up : List Shape → ℕ → Result Shape ℕ

@@ -6,3 +6,5 @@ pub mod laws;
 pub mod numbers;
 pub mod refusal;
 pub mod row;
+#[cfg(test)]
+mod tests;

@@ -13,7 +13,7 @@ ghost use lib.ListN.{length};
 ghost use Rattle.std.specs.Results.{isErr};
 ghost use Rattle.kinds.specs.Written.{written};
 ghost use Rattle.kinds.specs.Said.{said};
-ghost use Rattle.kinds.specs.Kinds.{shape-of};
+ghost use Rattle.kinds.specs.Kinds.{shape-of, accepted};
 ghost use Rattle.kinds.specs.Books.{book-list, numbered, extended};
 
 impl Book {
@@ -38,13 +38,13 @@ impl Book {
 
     /// Adds the kind that the numbers write, and says its number.
     pub fn add(&mut self, numbers: &[u32]) -> Result<u32, Refusal>
-        ensures answer { λ r. ⌜ said (λ n. n) r ≡ numbered (book-list (now (self .entry))) (written (now (numbers .entry))) ⌝ }
-        ensures list { λ _. ⌜ book-list (now (self .exit)) ≡ extended (book-list (now (self .entry))) (written (now (numbers .entry))) ⌝ }
+        ensures answer { λ r. ⌜ said (λ n. n) r ≡ numbered (book-list (now (self .entry))) (accepted (written (now (numbers .entry)))) ⌝ }
+        ensures list { λ _. ⌜ book-list (now (self .exit)) ≡ extended (book-list (now (self .entry))) (accepted (written (now (numbers .entry)))) ⌝ }
         ensures kept { λ r. ⌜ (isErr r ≡ true → now (self .exit) ≡ now (self .entry)) ⌝ }
     {
         let kind = Kind::new(numbers)?;
         let number = self.count;
-        if number as usize == MAX_KINDS {
+        if number as usize >= MAX_KINDS {
             return Err(Refusal::BadKind);
         }
         self.push(kind);

@@ -1,4 +1,4 @@
-//! Kinds from rows and from numbers, after a check.
+//! Kinds from rows and from numbers, after a check, and their rows.
 
 use super::Kind;
 use crate::refusal::Refusal;
@@ -18,6 +18,13 @@ impl Kind {
         } else {
             Err(Refusal::BadKind)
         }
+    }
+
+    /// The row of the kind.
+    pub fn row(&self) -> Row
+        ensures { λ r. ⌜ r ≡ now (self .entry) .row ⌝ }
+    {
+        self.row
     }
 
     /// The kind that the numbers write: the number of fields, then pairs of offset and length.

@@ -1,7 +1,6 @@
 //! What a kind says of its fields.
 
 use super::Kind;
-use crate::row::Row;
 ghost use mathlib.Core.Path.{_≡_};
 ghost use Prim.Native.Nat.{_≤_};
 ghost use Rattle.kinds.specs.Shapes.{within};
@@ -21,12 +20,5 @@ impl Kind {
         ensures { λ r. ⌜ r ≡ within (shape-of (now (self .entry)) .runs) field ⌝ }
     {
         self.row.refers(field)
-    }
-
-    /// The numbers of the kind.
-    pub fn row(&self) -> Row
-        ensures { λ r. ⌜ r ≡ now (self .entry) .row ⌝ }
-    {
-        self.row
     }
 }

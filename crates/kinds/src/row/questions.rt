@@ -17,7 +17,7 @@ fn in_run(offset: u32, length: u32, field: u32) -> bool
 
 impl Row {
     /// The number of fields.
-    pub fn fields(&self) -> u32
+    pub(crate) fn fields(&self) -> u32
         ensures { λ r. ⌜ r ≡ now (self .entry) .fields ⌝ }
     {
         self.fields

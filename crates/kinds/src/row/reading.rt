@@ -7,7 +7,7 @@ ghost use Rattle.kinds.specs.Read.{row-read, taken, Placed};
 
 impl Row {
     /// The row that the numbers write. None for an empty slice, for a lone last number, and for a fifth pair; the other rules are not tested.
-    pub fn read(numbers: &[u32]) -> Option<Row>
+    pub(crate) fn read(numbers: &[u32]) -> Option<Row>
         ensures few { λ r. ⌜ Placed r ⌝ }
         ensures shape { λ r. ⌜ row-read r ≡ taken (now (numbers .entry)) ⌝ }
     {

@@ -36,7 +36,7 @@ impl Row {
     }
 
     /// Does the row keep the rules of a kind?
-    pub fn lawful(&self) -> bool
+    pub(crate) fn lawful(&self) -> bool
         ensures { λ r. ⌜ r ≡ row-lawful (now (self .entry)) ⌝ }
     {
         self.fields <= MAX_FIELDS && self.runs <= MAX_RUNS && self.runs_fit()

@@ -1,16 +1,15 @@
 //! A row's runs, one by one.
 
-use super::MAX_RUNS;
 use super::Row;
 ghost use mathlib.Core.Path.{_≡_};
 ghost use mathlib.Core.List.{[], _∷_, _++_};
-ghost use Prim.Native.Nat.{_<_, _≤_, _+_};
+ghost use Prim.Native.Nat.{_<_, _+_};
 ghost use lib.ListN.{getD};
 ghost use Rattle.kinds.specs.Rows.{row-runs, places};
 
 impl Row {
     /// A row with so many fields and no run.
-    pub fn new(fields: u32) -> Row
+    pub(crate) fn new(fields: u32) -> Row
         ensures fields { λ r. ⌜ r .fields ≡ fields ⌝ }
         ensures runs { λ r. ⌜ r .runs ≡ 0 ⌝ }
     {

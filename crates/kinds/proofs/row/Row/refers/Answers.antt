@@ -1,4 +1,4 @@
-use mathlib.Core.Path.{_≡_, _∙_, ap, sym}
+use mathlib.Core.Path.{_∙_, ap, sym}
 use lib.ListN.{drop}
 use Prim.Native.Nat.{_+_}
 use Rattle.kinds.specs.Shapes.{within}
