@@ -22,7 +22,6 @@ sort-from true b e = not-false b e
 sort-from false b e = e
 
 field-from : (book : List Shape) (g : Graph) (a i : ℕ) (t : Bool) → field-refusal book g a i t ≡ 0 → Field book g a i t
-unfolding field-refusal
 field-from book g a i t h =
     let x = pass (eqb (slot g a) 0) 2 _ h in
     let y = pass (leb (size book (held g a .kind)) i) 3 _ (x .1) in
@@ -34,7 +33,6 @@ slot-from : (g : Graph) (a : ℕ) → no-slot g a ≡ false → Slot g a
 slot-from g a h = leb-false (length (g .slots)) a h
 
 make-from : (book : List Shape) (cs : List ℕ) (left : ℕ) (g : Graph) (k : ℕ) → make-refusal book cs left g k ≡ 0 → (k < length book) × (getD cs k 0 ≤ left) × (g .next ≤ 4294967295)
-unfolding make-refusal
 make-from book cs left g k h =
     let y = pass (leb (length book) k) 1 _ h in
     let z = pass (ltb left (getD cs k 0)) 5 _ (y .1) in

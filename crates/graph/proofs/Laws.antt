@@ -194,7 +194,6 @@ module _ (book : List Shape) where
 
   -- The refusal and the answer of the list are the graph's.
   pub refusal-prune : (cs : List ℕ) (left : ℕ) (g : Graph) → Sound book g → (c : Call) → refusal-in book cs left (prune book g) c ≡ refusal-in book cs left g c
-  unfolding make-refusal field-refusal
   refusal-prune cs left g s (make a k) = rw (prune-slots, prune-next)
   refusal-prune cs left g s (read a i) = rw (prune-slots, held-prune book g s a)
   refusal-prune cs left g s (write a i w) = rw (prune-slots, held-prune book g s a)

@@ -83,13 +83,13 @@ abbrev pub no-slot : Graph → ℕ → Bool
 no-slot g a = leb (length (g .slots)) a
 
 -- 3, 4 and 5, for a call that needs field i of slot a's record: `reference` says which sort of field it wants.
-unfoldable pub field-refusal : List Shape → Graph → ℕ → ℕ → Bool → ℕ
+abbrev pub field-refusal : List Shape → Graph → ℕ → ℕ → Bool → ℕ
 field-refusal book g a i reference =
     cond (eqb (slot g a) 0) 3
     (cond (leb (size book (held g a .kind)) i) 4
     (cond (cond reference (not (refers book (held g a .kind) i)) (refers book (held g a .kind) i)) 5 0))
 
-unfoldable pub make-refusal : List Shape → List ℕ → ℕ → Graph → ℕ → ℕ
+abbrev pub make-refusal : List Shape → List ℕ → ℕ → Graph → ℕ → ℕ
 make-refusal book charges left g k =
     cond (leb (length book) k) 2
     (cond (ltb left (getD charges k 0)) 6

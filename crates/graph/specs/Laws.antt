@@ -6,9 +6,9 @@ use mathlib.Core.Bool.{true}
 use Prim.Native.Nat.{ℕ, _≤_, _+_}
 use lib.ListN.{replicate}
 use Rattle.kinds.specs.Shapes.{Shape}
-use Rattle.graph.specs.Graph.{Record, Graph, Reached, reached, prune}
-use Rattle.graph.specs.Calls.{Call, Makes, make, write, follow, link, drop, refusal-in, after, live, paid}
-use Rattle.graph.specs.Sound.{Sound, Same, Canonical}
+use Rattle.graph.specs.Graph.{Record, Graph, _∈_, Reached, reached, prune}
+use Rattle.graph.specs.Calls.{Call, Makes, make, write, follow, link, drop, refusal-in, after, total, live, paid}
+use Rattle.graph.specs.Sound.{Distinct, Sound, Same, Canonical}
 
 -- A graph with S empty slots and no records.
 abbrev pub empty : ℕ → ℕ → Graph
@@ -18,6 +18,8 @@ empty S first = record { slots = replicate S 0; next = first; records = [] }
 pub record Laws : Type 0 where
   -- the test of being reached decides the relation
   pub decided : (book : List Shape) (g : Graph) (n : ℕ) → (reached book g n ≡ true → Reached book g n) × (Reached book g n → reached book g n ≡ true)
+  -- the canonical graph has just the records that are reached
+  pub keeps : (book : List Shape) (g : Graph) (r : Record) → (r ∈ prune book g .records → (r ∈ g .records) × Reached book g (r .number)) × (r ∈ g .records → Reached book g (r .number) → r ∈ prune book g .records)
   -- lists of records that agree on what is reached have one canonical graph, which is one
   pub one : (book : List Shape) (g h : Graph) → Sound book g → Sound book h → Same book g h → prune book g ≡ prune book h
   pub canonical : (book : List Shape) (g : Graph) → Sound book g → Canonical book (prune book g)
@@ -28,6 +30,8 @@ pub record Laws : Type 0 where
   pub reaches : (book : List Shape) (charges : List ℕ) (left : ℕ) (g : Graph) (c : Call) → Canonical book g → refusal-in book charges left g c ≡ 0 → (n : ℕ) → Reached book (after book g c) n → Reached book g n ⊎ (Makes c × (n ≡ g .next))
   -- live words rise only by a make, and then by at most the charge; garbage does not count
   pub rises : (book : List Shape) (charges : List ℕ) (left : ℕ) (g : Graph) (c : Call) → Canonical book g → refusal-in book charges left g c ≡ 0 → live book charges (after book g c) ≤ live book charges g + paid charges c
+  -- live words are the charges of any list that has each reached record once
+  pub weighs : (book : List Shape) (charges : List ℕ) (g : Graph) (rs : List Record) → Sound book g → Distinct rs → ((r : Record) → r ∈ rs → (r ∈ g .records) × Reached book g (r .number)) → ((r : Record) → r ∈ g .records → Reached book g (r .number) → r ∈ rs) → live book charges g ≡ total charges rs
   pub counts : (book : List Shape) (charges : List ℕ) (g : Graph) → Sound book g → live book charges (prune book g) ≡ live book charges g
 
 -- Calls one after another, none refused.

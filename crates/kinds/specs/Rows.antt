@@ -27,6 +27,10 @@ row-lawful r = leb (r .runs) 4 && lawful (row-shape r)
 abbrev pub no-row : Row
 no-row = record { fields = 0; runs = 0; «offset_0» = 0; «length_0» = 0; «offset_1» = 0; «length_1» = 0; «offset_2» = 0; «length_2» = 0; «offset_3» = 0; «length_3» = 0 }
 
+-- A row from its numbers.
+abbrev pub row-of : (fields runs offset0 length0 offset1 length1 offset2 length2 offset3 length3 : ℕ) → Row
+row-of fields runs offset0 length0 offset1 length1 offset2 length2 offset3 length3 = record { fields = fields; runs = runs; «offset_0» = offset0; «length_0» = length0; «offset_1» = offset1; «length_1» = length1; «offset_2» = offset2; «length_2» = length2; «offset_3» = offset3; «length_3» = length3 }
+
 -- Each of the first `count` rows keeps the rules.
 abbrev pub Lawful-rows : List Row → ℕ → Type 0
 Lawful-rows rows count = (k : ℕ) → k < count → row-lawful (getD rows k no-row) ≡ true

@@ -14,14 +14,14 @@ pub const MAX_RUNS: u32 = 4;
 /// The number of fields, the number of runs, and the runs in their order. A place past the number of runs is not used.
 #[derive(Clone, Copy)]
 pub struct Row {
-    fields: u32,
-    runs: u32,
-    offset_0: u32,
-    length_0: u32,
-    offset_1: u32,
-    length_1: u32,
-    offset_2: u32,
-    length_2: u32,
-    offset_3: u32,
-    length_3: u32,
+    pub(crate) fields: u32,
+    pub(crate) runs: u32,
+    pub(crate) offset_0: u32,
+    pub(crate) length_0: u32,
+    pub(crate) offset_1: u32,
+    pub(crate) length_1: u32,
+    pub(crate) offset_2: u32,
+    pub(crate) length_2: u32,
+    pub(crate) offset_3: u32,
+    pub(crate) length_3: u32,
 }

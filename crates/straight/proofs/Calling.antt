@@ -41,13 +41,13 @@ module _ (s : State) (w : Whole s) where
   pub count-below : (a : ℕ) → a < length (raw-of s .slots) → a < s .count
   count-below a l = subst (λ n. a < n) (ap length (raw-slots (s .book) (vw s w) (names s) (s .next)) ∙ names-length s w) l
 
-  record Met (a i : ℕ) (t : Bool) : Type 0 where
+  pub record Met (a i : ℕ) (t : Bool) : Type 0 where
     pub slot : a < s .count
     pub full : 0 < reference s a
     pub below : i < size (s .book) (word-at s (place s a + 1))
     pub sort : refers (s .book) (word-at s (place s a + 1)) i ≡ t
 
-  met : (a i : ℕ) (t : Bool) → a < length (raw-of s .slots) → Field (s .book) (raw-of s) a i t → Met a i t
+  pub met : (a i : ℕ) (t : Bool) → a < length (raw-of s .slots) → Field (s .book) (raw-of s) a i t → Met a i t
   met a i t l f =
       let k : a < s .count = count-below a l in
       let z : 0 < reference s a = full-slot s w a k (f .full) in

@@ -28,6 +28,11 @@ unfolding cleared
 cleared-under m a zero x l = refl
 cleared-under m a (suc n) x l = getD-set-other (cleared m a n) (a + n) x 0 0 (λ e. omega arith) ∙ cleared-under m a n x l
 
+pub cleared-over : (m : List ℕ) (a n x : ℕ) → a + n ≤ x → getD (cleared m a n) x 0 ≡ getD m x 0
+unfolding cleared
+cleared-over m a zero x l = refl
+cleared-over m a (suc n) x l = getD-set-other (cleared m a n) (a + n) x 0 0 (λ e. omega arith) ∙ cleared-over m a n x (omega arith)
+
 pub cleared-at : (m : List ℕ) (a n j : ℕ) → a + n ≤ length m → j < n → getD (cleared m a n) (a + j) 0 ≡ 0
 unfolding cleared
 cleared-at m a zero j f l = absurd (omega arith)

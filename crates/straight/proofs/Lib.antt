@@ -7,3 +7,4 @@ pub mod Making
 pub mod Calling
 pub mod Openings
 pub mod Answering
+pub mod Keeping

@@ -18,7 +18,7 @@ use Rattle.graph.proofs.Views.{made-same}
 use Rattle.straight.specs.Words.{State, reference, laid, cleared, words-after}
 use Rattle.straight.specs.Layout.{places, end-of, name, shown, view, names, raw-of}
 use Rattle.straight.specs.Whole.{Whole, Records, Leads, among}
-use Rattle.straight.proofs.Clearing.{cleared-length, cleared-under, cleared-at}
+use Rattle.straight.proofs.Clearing.{cleared-length, cleared-under, cleared-over, cleared-at}
 use Rattle.straight.proofs.Walk.{push-laid, low, laid-once, in-append, append-left, append-right}
 use Rattle.straight.proofs.Reading.{among-in, in-among, name-full, taken-length}
 use Rattle.straight.proofs.Changing.{name-kept, map-names, shown-kept}
@@ -42,6 +42,12 @@ module _ (m : List ℕ) (p number k n : ℕ) (fits : p + (2 + n) ≤ length m) w
       ∙ getD-set-other (set m p number) (p + 1) x k 0 (λ e. omega arith)
       ∙ getD-set-other m p x number 0 (λ e. omega arith)
 
+  pub laid-over : (x : ℕ) → p + (2 + n) ≤ x → getD (laid m p number k n) x 0 ≡ getD m x 0
+  laid-over x l =
+      cleared-over (set (set m p number) (p + 1) k) (p + 2) n x (omega arith)
+      ∙ getD-set-other (set m p number) (p + 1) x k 0 (λ e. omega arith)
+      ∙ getD-set-other m p x number 0 (λ e. omega arith)
+
   pub laid-number : getD (laid m p number k n) p 0 ≡ number
   laid-number =
       cleared-under (set (set m p number) (p + 1) k) (p + 2) n p (omega arith)
@@ -59,22 +65,22 @@ module _ (m : List ℕ) (p number k n : ℕ) (fits : p + (2 + n) ≤ length m) w
   laid-field j l = let e : length head ≡ length m = head-length in cleared-at head (p + 2) n j (omega arith) l
 
 module _ (s : State) (w : Whole s) (a k : ℕ) (l : a < s .count) (known : k < length (s .book)) (room : 2 + size (s .book) k ≤ s .room - s .top) (less : s .next ≤ 4294967295) where
-  abbrev ps : List ℕ
+  abbrev pub ps : List ℕ
   ps = places (s .book) (s .memory) (s .top)
 
-  abbrev n : ℕ
+  abbrev pub n : ℕ
   n = size (s .book) k
 
-  abbrev mem : List ℕ
+  abbrev pub mem : List ℕ
   mem = s .memory
 
-  abbrev mem′ : List ℕ
+  abbrev pub mem′ : List ℕ
   mem′ = laid (s .memory) (s .top) (s .next) k n
 
-  abbrev ps′ : List ℕ
+  abbrev pub ps′ : List ℕ
   ps′ = places (s .book) mem′ (s .top + (2 + n))
 
-  fits : s .top + (2 + n) ≤ length mem
+  pub fits : s .top + (2 + n) ≤ length mem
   fits = let i : s .top ≤ s .room = w .inside in let j : s .room ≤ length (s .memory) = w .fits in omega arith
 
   under : (x : ℕ) → x < s .top → getD mem′ x 0 ≡ getD mem x 0
@@ -86,10 +92,10 @@ module _ (s : State) (w : Whole s) (a k : ℕ) (l : a < s .count) (known : k < l
   below : (q : ℕ) → q ∈ ps → q + 2 + size (s .book) (getD mem (q + 1) 0) ≤ s .top
   below q j = low (s .book) mem mem′ (s .top) k (w .laid) under (laid-kind mem (s .top) (s .next) k n fits) q j
 
-  numbers : (q : ℕ) → q ∈ ps → getD mem′ q 0 ≡ getD mem q 0
+  pub numbers : (q : ℕ) → q ∈ ps → getD mem′ q 0 ≡ getD mem q 0
   numbers q j = under q (let h : q + 2 + size (s .book) (getD mem (q + 1) 0) ≤ s .top = below q j in omega arith)
 
-  kinds : (q : ℕ) → q ∈ ps → getD mem′ (q + 1) 0 ≡ getD mem (q + 1) 0
+  pub kinds : (q : ℕ) → q ∈ ps → getD mem′ (q + 1) 0 ≡ getD mem (q + 1) 0
   kinds q j = under (q + 1) (let h : q + 2 + size (s .book) (getD mem (q + 1) 0) ≤ s .top = below q j in omega arith)
 
   fields : (q j : ℕ) → q ∈ ps → j < size (s .book) (getD mem (q + 1) 0) → getD mem′ (q + 2 + j) 0 ≡ getD mem (q + 2 + j) 0
@@ -98,7 +104,7 @@ module _ (s : State) (w : Whole s) (a k : ℕ) (l : a < s .count) (known : k < l
   into : (q : ℕ) → q ∈ ps′ → (q ≡ s .top) ⊎ (q ∈ ps)
   into q j = ⊎-elim (λ y. inr y) (⊎-elim (λ y. inl y) (λ y. absurd y)) (in-append ps (s .top ∷ []) q (subst (λ xs. q ∈ xs) (pushed .0) j))
 
-  old : (q : ℕ) → q ∈ ps → q ∈ ps′
+  pub old : (q : ℕ) → q ∈ ps → q ∈ ps′
   old q j = subst (λ xs. q ∈ xs) (sym (pushed .0)) (append-left ps (s .top ∷ []) q j)
 
   new : s .top ∈ ps′

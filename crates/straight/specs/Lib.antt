@@ -4,3 +4,4 @@ pub mod Whole
 pub mod Stored
 pub mod Opening
 pub mod Bounds
+pub mod Laws

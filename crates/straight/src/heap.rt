@@ -6,6 +6,7 @@ ghost use Rattle.straight.specs.Stored.{state};
 ghost use Rattle.straight.specs.Whole.{Whole};
 
 pub mod calls;
+pub mod laws;
 pub mod opening;
 mod space;
 

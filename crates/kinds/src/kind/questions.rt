@@ -12,13 +12,13 @@ impl Kind {
         ensures fields { λ r. ⌜ r ≡ shape-of (now (self .entry)) .fields ⌝ }
         ensures few { λ r. ⌜ r ≤ 62 ⌝ }
     {
-        self.row.fields()
+        self.fields
     }
 
     /// Is the field a reference field?
     pub fn refers(&self, field: u32) -> bool
         ensures { λ r. ⌜ r ≡ within (shape-of (now (self .entry)) .runs) field ⌝ }
     {
-        self.row.refers(field)
+        self.row().refers(field)
     }
 }

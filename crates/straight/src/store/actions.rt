@@ -13,7 +13,7 @@ const HEAD: u32 = 2;
 
 impl<'m> Store<'m> {
     /// Lays a record of the kind at the top, and puts it into the slot; gives its number.
-    pub fn lay(&mut self, slot: u32, kind: u32) -> u32
+    pub(crate) fn lay(&mut self, slot: u32, kind: u32) -> u32
         requires { ⌜ Room (state (now self)) slot kind ⌝ }
         ensures number { λ r. ⌜ r ≡ state (now (self .entry)) .next ⌝ }
         ensures after { λ _. ⌜ state (now (self .exit)) ≡ words-after (state (now (self .entry))) (Make slot kind) ⌝ }
@@ -39,7 +39,7 @@ impl<'m> Store<'m> {
     }
 
     /// A field of a slot's record.
-    pub fn field(&self, slot: u32, field: u32) -> u32
+    pub(crate) fn field(&self, slot: u32, field: u32) -> u32
         requires { ⌜ Held (state (now self)) slot field ⌝ }
         ensures { λ r. ⌜ r ≡ word-at (state (now (self .entry))) (Spot (state (now (self .entry))) slot field) ⌝ }
     {
@@ -47,7 +47,7 @@ impl<'m> Store<'m> {
     }
 
     /// Sets a word field of a slot's record.
-    pub fn put_field(&mut self, slot: u32, field: u32, word: u32)
+    pub(crate) fn put_field(&mut self, slot: u32, field: u32, word: u32)
         requires { ⌜ Held (state (now self)) slot field ⌝ }
         ensures { λ _. ⌜ state (now (self .exit)) ≡ words-after (state (now (self .entry))) (Write slot field word) ⌝ }
     {
@@ -56,7 +56,7 @@ impl<'m> Store<'m> {
     }
 
     /// Puts a reference field of a slot's record into another slot.
-    pub fn follow(&mut self, slot: u32, field: u32, to: u32)
+    pub(crate) fn follow(&mut self, slot: u32, field: u32, to: u32)
         requires held { ⌜ Held (state (now self)) slot field ⌝ }
         requires to { ⌜ to < state (now self) .count ⌝ }
         ensures { λ _. ⌜ state (now (self .exit)) ≡ words-after (state (now (self .entry))) (Follow slot field to) ⌝ }
@@ -66,7 +66,7 @@ impl<'m> Store<'m> {
     }
 
     /// Sets a reference field of a slot's record to what another slot holds.
-    pub fn link(&mut self, slot: u32, field: u32, from: u32)
+    pub(crate) fn link(&mut self, slot: u32, field: u32, from: u32)
         requires held { ⌜ Held (state (now self)) slot field ⌝ }
         requires from { ⌜ from < state (now self) .count ⌝ }
         ensures { λ _. ⌜ state (now (self .exit)) ≡ words-after (state (now (self .entry))) (Link slot field from) ⌝ }
@@ -76,7 +76,7 @@ impl<'m> Store<'m> {
     }
 
     /// Puts what a slot holds into another.
-    pub fn hold(&mut self, slot: u32, to: u32)
+    pub(crate) fn hold(&mut self, slot: u32, to: u32)
         requires slot { ⌜ slot < 64 ⌝ }
         requires to { ⌜ to < 64 ⌝ }
         ensures { λ _. ⌜ state (now (self .exit)) ≡ words-after (state (now (self .entry))) (Hold slot to) ⌝ }
@@ -86,7 +86,7 @@ impl<'m> Store<'m> {
     }
 
     /// Empties a slot.
-    pub fn empty(&mut self, slot: u32)
+    pub(crate) fn empty(&mut self, slot: u32)
         requires { ⌜ slot < 64 ⌝ }
         ensures { λ _. ⌜ state (now (self .exit)) ≡ words-after (state (now (self .entry))) (Dropped slot) ⌝ }
     {

@@ -21,7 +21,7 @@ fn is_bad(words: usize, slots: u32, first: u32) -> bool
 
 impl<'m> Store<'m> {
     /// Empty slots over the lent words; no slots and no room where the opening is bad.
-    pub fn open(memory: &'m mut [u32], slots: u32, book: SealedBook, first: u32) -> Store<'m>
+    pub(crate) fn open(memory: &'m mut [u32], slots: u32, book: SealedBook, first: u32) -> Store<'m>
         ensures { λ r. ⌜ state r ≡ opened (now (memory .entry)) slots (kinds-of book) first ⌝ }
     {
         let bad = is_bad(memory.len(), slots, first);

@@ -14,14 +14,14 @@ ghost use Rattle.straight.specs.Words.{Full, place as Place, word-at};
 
 impl<'m> Store<'m> {
     /// The number of kinds in the book.
-    pub fn kinds(&self) -> u32
+    pub(crate) fn kinds(&self) -> u32
         ensures { λ r. ⌜ r ≡ length (state (now (self .entry)) .book) ⌝ }
     {
         self.book.kinds()
     }
 
     /// The kind of a number that is in the book.
-    pub fn kind(&self, kind: u32) -> Kind
+    pub(crate) fn kind(&self, kind: u32) -> Kind
         requires { ⌜ kind < length (state (now self) .book) ⌝ }
         ensures { λ r. ⌜ shape-of r ≡ getD (state (now (self .entry)) .book) kind no-shape ⌝ }
     {
@@ -40,7 +40,7 @@ impl<'m> Store<'m> {
     }
 
     /// The kind of a full slot's record.
-    pub fn kind_held(&self, slot: u32) -> Kind
+    pub(crate) fn kind_held(&self, slot: u32) -> Kind
         requires { ⌜ Full (state (now self)) slot ⌝ }
         ensures { λ r. ⌜ shape-of r ≡ getD (state (now (self .entry)) .book) (word-at (state (now (self .entry))) (Place (state (now (self .entry))) slot + 1)) no-shape ⌝ }
     {
@@ -48,7 +48,7 @@ impl<'m> Store<'m> {
     }
 
     /// Number and kind of a full slot's record.
-    pub fn described(&self, slot: u32) -> (u32, u32)
+    pub(crate) fn described(&self, slot: u32) -> (u32, u32)
         requires { ⌜ Full (state (now self)) slot ⌝ }
         ensures { λ r. ⌜ (r .0 ≡ word-at (state (now (self .entry))) (Place (state (now (self .entry))) slot)) × (r .1 ≡ word-at (state (now (self .entry))) (Place (state (now (self .entry))) slot + 1)) ⌝ }
     {

@@ -10,7 +10,7 @@ ghost use Rattle.straight.specs.Words.{reference, with-memory, with-slots, wor
 
 impl<'m> Store<'m> {
     /// The word at an address.
-    pub fn word(&self, at: u32) -> u32
+    pub(crate) fn word(&self, at: u32) -> u32
         requires { ⌜ at < length (state (now self) .memory) ⌝ }
         ensures { λ r. ⌜ r ≡ word-at (state (now (self .entry))) at ⌝ }
     {
@@ -18,7 +18,7 @@ impl<'m> Store<'m> {
     }
 
     /// Sets the word at an address.
-    pub fn put(&mut self, at: u32, word: u32)
+    pub(crate) fn put(&mut self, at: u32, word: u32)
         requires { ⌜ at < length (state (now self) .memory) ⌝ }
         ensures { λ _. ⌜ state (now (self .exit)) ≡ with-memory (state (now (self .entry))) (set (state (now (self .entry)) .memory) at word) ⌝ }
     {
@@ -26,7 +26,7 @@ impl<'m> Store<'m> {
     }
 
     /// What a slot holds.
-    pub fn slot(&self, slot: u32) -> u32
+    pub(crate) fn slot(&self, slot: u32) -> u32
         requires { ⌜ slot < 64 ⌝ }
         ensures { λ r. ⌜ r ≡ reference (state (now (self .entry))) slot ⌝ }
     {
@@ -34,7 +34,7 @@ impl<'m> Store<'m> {
     }
 
     /// Sets a slot.
-    pub fn put_slot(&mut self, slot: u32, reference: u32)
+    pub(crate) fn put_slot(&mut self, slot: u32, reference: u32)
         requires { ⌜ slot < 64 ⌝ }
         ensures { λ _. ⌜ state (now (self .exit)) ≡ with-slots (state (now (self .entry))) (set (state (now (self .entry)) .slots) slot reference) ⌝ }
     {
@@ -42,7 +42,7 @@ impl<'m> Store<'m> {
     }
 
     /// Clears `n` words from an address on.
-    pub fn clear(&mut self, at: u32, n: u32)
+    pub(crate) fn clear(&mut self, at: u32, n: u32)
         requires fits { ⌜ at + n ≤ length (state (now self) .memory) ⌝ }
         requires small { ⌜ at + n ≤ 16384 ⌝ }
         ensures { λ _. ⌜ state (now (self .exit)) ≡ with-memory (state (now (self .entry))) (cleared (state (now (self .entry)) .memory) at n) ⌝ }
