@@ -4,4 +4,5 @@ pub mod Sound
 pub mod View
 pub mod Meaning
 pub mod Replies
+pub mod Cycle
 pub mod Laws

@@ -1,5 +1,6 @@
 //! The graph of linked records, and what a heap means.
 
+pub mod collected;
 pub mod heap;
 
 ghost use Rattle.graph.specs.Laws.{Laws, Examples};

@@ -1,4 +1,7 @@
-//! Tests of the heaps, in a crate of their own: a crate with tests is proved twice.
+//! Tests of the heaps and the keeper, in a crate of their own: a crate with tests is proved twice.
 
+pub mod hollow;
+#[cfg(test)]
+mod keeping;
 #[cfg(test)]
 mod straight_heap;

@@ -1,0 +1,5 @@
+pub mod Keeping
+pub mod History
+pub mod Holding
+pub mod Play
+pub mod Bills

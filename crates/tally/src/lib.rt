@@ -1,0 +1,3 @@
+//! The tally: counts what passes through it to the heap below.
+
+pub mod tallied;
