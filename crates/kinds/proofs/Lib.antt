@@ -4,3 +4,4 @@ mod Listing
 mod Adding
 pub mod Ruling
 pub mod Sealed
+pub mod Looking
