@@ -82,3 +82,7 @@ unfolding live prune
 live-prune book cs g =
     ap (total cs) (select-all (λ r. reached book (prune book g) (r .number)) (prune book g .records) (λ r i. reached-complete book (prune book g) (same-reached book g (prune book g) (same-prune book g) (in-prune book g r i .1))))
     ∙ total-sort cs (select (λ (r : Record). reached book g (r .number)) (g .records))
+
+pub live-is : (book : List Shape) (cs : List ℕ) (g : Graph) → live book cs (prune book g) ≡ total cs (select (λ (r : Record). reached book g (r .number)) (g .records))
+unfolding live
+live-is book cs g = live-prune book cs g
