@@ -1,4 +1,4 @@
--- Lists of records: membership, order by number, what is select, and totals.
+-- Lists of records: membership, order by number, what is selected, and totals.
 use mathlib.Core.Path.{_≡_, refl, sym, _∙_, ap, subst}
 use mathlib.Core.List.{List, [], _∷_, _++_, map}
 use mathlib.Core.Logic.{_⊎_, inl, inr, ⊎-elim}

@@ -31,7 +31,7 @@ same-trans book g h k s t = record { slots = s .slots ∙ t .slots; next = s .ne
 pub same-refl : (book : List Shape) (g : Graph) → Same book g g
 same-refl book g = record { slots = refl; next = refl; there = λ r i q. i; back = λ r i q. i }
 
--- (L1)
+-- A record of the canonical graph is one of the graph's, and reached; and the other way round.
 pub in-prune : (book : List Shape) (g : Graph) (r : Record) → r ∈ prune book g .records → (r ∈ g .records) × Reached book g (r .number)
 unfolding prune
 in-prune book g r i = let k = in-select (λ (q : Record). reached book g (q .number)) (g .records) r (in-sort (select (λ (q : Record). reached book g (q .number)) (g .records)) r i) in (k .0, reached-sound book g (r .number) (k .1))

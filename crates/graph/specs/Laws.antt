@@ -14,7 +14,8 @@ use Rattle.graph.specs.Sound.{Distinct, Sound, Same, Canonical}
 abbrev pub empty : ℕ → ℕ → Graph
 empty S first = record { slots = replicate S 0; next = first; records = [] }
 
--- For every book and all charges and spares: a call that is not refused, on a canonical graph.
+-- For every book and all charges and spares. `stays`, `reaches` and `rises` speak of a call that is not refused, on a canonical graph;
+-- the others speak of any graph, of sound lists of records, or of the empty graph.
 pub record Laws : Type 0 where
   -- the test of being reached decides the relation
   pub decided : (book : List Shape) (g : Graph) (n : ℕ) → (reached book g n ≡ true → Reached book g n) × (Reached book g n → reached book g n ≡ true)

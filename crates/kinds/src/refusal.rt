@@ -1,6 +1,6 @@
 //! Why a call was refused.
 
-/// Why a call was refused. `code` of the specification gives each case its number.
+/// Why a call was refused. `code` in specs/Refusals.antt gives each case its number.
 #[derive(Clone, Copy, PartialEq, Eq, Debug)]
 pub enum Refusal {
     /// 1: a slot number is not below the number of slots.

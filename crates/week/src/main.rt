@@ -1,4 +1,4 @@
-//! Follows one message on a bridge: a driver makes a record for each axle, a task follows the links back.
+//! Follows the records of axles on a bridge: a driver makes one for each axle, a task follows the links back.
 
 mod axles;
 mod refused;
