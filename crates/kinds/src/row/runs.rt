@@ -4,7 +4,7 @@ use super::Row;
 ghost use mathlib.Core.Path.{_≡_};
 ghost use mathlib.Core.List.{[], _∷_, _++_};
 ghost use Prim.Native.Nat.{_<_, _+_};
-ghost use lib.ListN.{getD};
+ghost use lib.ListN.{getD, set};
 ghost use Rattle.kinds.specs.Rows.{row-runs, places};
 
 impl Row {
@@ -12,6 +12,7 @@ impl Row {
     pub(crate) fn new(fields: u32) -> Row
         ensures fields { λ r. ⌜ r .fields ≡ fields ⌝ }
         ensures runs { λ r. ⌜ r .runs ≡ 0 ⌝ }
+        ensures places { λ r. ⌜ places r ≡ (0, 0) ∷ (0, 0) ∷ (0, 0) ∷ (0, 0) ∷ [] ⌝ }
     {
         Row {
             fields,
@@ -46,6 +47,7 @@ impl Row {
         ensures fields { λ _. ⌜ now (self .exit) .fields ≡ now (self .entry) .fields ⌝ }
         ensures count { λ _. ⌜ now (self .exit) .runs ≡ now (self .entry) .runs + 1 ⌝ }
         ensures runs { λ _. ⌜ row-runs (now (self .exit)) ≡ row-runs (now (self .entry)) ++ ((offset, length) ∷ []) ⌝ }
+        ensures places { λ _. ⌜ places (now (self .exit)) ≡ set (places (now (self .entry))) (now (self .entry) .runs) (offset, length) ⌝ }
     {
         match self.runs {
             0 => (self.offset_0, self.length_0) = (offset, length),
