@@ -4,4 +4,6 @@ pub mod hollow;
 #[cfg(test)]
 mod keeping;
 #[cfg(test)]
+mod readme;
+#[cfg(test)]
 mod straight_heap;
