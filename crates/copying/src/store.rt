@@ -1,0 +1,27 @@
+//! The words and registers of a copying heap.
+
+use crate::collector::Collector;
+use crate::halves::Halves;
+use kinds::book::SealedBook;
+
+pub mod actions;
+pub mod calls;
+pub mod opening;
+pub mod questions;
+pub mod steps;
+
+/// The most slots that a heap has.
+pub const MAX_SLOTS: usize = 64;
+
+/// Lent words, and the registers over them.
+#[derive(Drop)]
+pub struct Store<'m> {
+    pub(crate) memory: &'m mut [u32],
+    pub(crate) slots: [u32; MAX_SLOTS],
+    pub(crate) count: u32,
+    book: SealedBook,
+    pub(crate) next: u64,
+    pub(crate) spare: u32,
+    pub(crate) halves: Halves,
+    collector: Collector,
+}
