@@ -4,6 +4,8 @@ use crate::collector::Collector;
 use crate::halves::Halves;
 use kinds::book::SealedBook;
 
+ghost use mathlib.Core.Path.{_≡_};
+
 pub mod actions;
 pub mod calls;
 pub mod opening;
@@ -14,7 +16,6 @@ pub mod steps;
 pub const MAX_SLOTS: usize = 64;
 
 /// Lent words, and the registers over them.
-#[derive(Drop)]
 pub struct Store<'m> {
     pub(crate) memory: &'m mut [u32],
     pub(crate) slots: [u32; MAX_SLOTS],
@@ -24,4 +25,13 @@ pub struct Store<'m> {
     pub(crate) spare: u32,
     pub(crate) halves: Halves,
     collector: Collector,
+}
+
+/// Letting a heap go leaves the lent words as they were.
+impl<'m> Drop for Store<'m> {
+    fn drop(self)
+        ensures { λ _. ⌜ now (self .exit .0) ≡ now (self .entry .memory) ⌝ }
+    {
+        let Store { memory: _, slots: _, count: _, book: _, next: _, spare: _, halves: _, collector: _ } = self;
+    }
 }
