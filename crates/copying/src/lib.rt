@@ -1,7 +1,7 @@
 //! The copying heap: records in two halves of lent words, moved one field a step.
 
-pub mod collector;
-pub mod halves;
+mod collector;
+mod halves;
 pub mod heap;
 mod store;
 

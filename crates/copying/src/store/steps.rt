@@ -63,7 +63,7 @@ impl<'m> Store<'m> {
     }
 
     // Takes the next words at the low end for the old record at `from`; gives the place's reference.
-    pub fn reserve(&mut self, from: u32) -> u32
+    pub(super) fn reserve(&mut self, from: u32) -> u32
         requires { ⌜ Bounds (view (now self)) ⌝ }
         requires { ⌜ Room (view (now self)) from ⌝ }
         ensures { λ r. ⌜ r ≡ next-place (view (now (self .entry))) + 1 ⌝ ∗ ⌜ view (now (self .exit)) ≡ reserved (view (now (self .entry))) from ⌝ }
@@ -212,7 +212,7 @@ impl<'m> Store<'m> {
     }
 
     // Makes one step; says whether it ended a cycle.
-    pub fn step(&mut self) -> bool
+    pub(crate) fn step(&mut self) -> bool
         requires { ⌜ Bounds (view (now self)) ⌝ }
         requires { ⌜ Ready (view (now self)) ⌝ }
         ensures { λ r. ⌜ view (now (self .exit)) ≡ stepped (view (now (self .entry))) ⌝ ∗ ⌜ r ≡ Resting (view (now (self .exit)) .collector) ⌝ }
