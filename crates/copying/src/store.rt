@@ -7,7 +7,7 @@ use kinds::book::SealedBook;
 ghost use mathlib.Core.Path.{_≡_};
 
 pub mod actions;
-pub mod calls;
+pub mod fields;
 pub mod opening;
 pub mod questions;
 pub mod steps;

@@ -4,7 +4,6 @@ use super::Copying;
 use super::calls::CopyingHeap;
 use graph::collected::Collected;
 
-ghost use Prim.Native.Nat.{ℕ};
 ghost use mathlib.Core.Path.{_≡_};
 ghost use Rattle.graph.specs.Cycle.{Step, Idled};
 ghost use Rattle.copying.specs.View.{view};

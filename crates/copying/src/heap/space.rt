@@ -3,7 +3,7 @@
 use super::Copying;
 use calls::space::Space;
 
-ghost use mathlib.Core.Path.{_≡_, refl};
+ghost use mathlib.Core.Path.{refl};
 ghost use Rattle.copying.specs.View.{view};
 ghost use Rattle.copying.specs.Collected.{meaning-of};
 ghost use Rattle.copying.specs.Callings.{Acted};

@@ -2,7 +2,7 @@
 
 use super::Store;
 
-ghost use Prim.Native.Nat.{_+_, _-_, _<_, _≤_};
+ghost use Prim.Native.Nat.{_+_, _-_, _<_};
 ghost use mathlib.Core.Path.{_≡_};
 ghost use Rattle.copying.specs.View.{view};
 ghost use Rattle.copying.specs.Words.{Bounds, Forwardable, «put-slot»};

@@ -7,7 +7,7 @@ ghost use Prim.Native.Nat.{_+_, _-_, _<_, _≤_};
 ghost use mathlib.Core.Path.{_≡_};
 ghost use lib.ListN.{length, getD};
 ghost use Rattle.copying.specs.View.{view};
-ghost use Rattle.copying.specs.Words.{Bounds, «both-halves», «fields-of», «fields-at», «kind-at», refers as Refers};
+ghost use Rattle.copying.specs.Words.{Bounds, «fields-of», «fields-at», «kind-at», refers as Refers};
 ghost use Rattle.copying.specs.Sound.{«opened-at», number as Number};
 ghost use Rattle.copying.specs.Callings.{«held-at», Full, Numbered};
 

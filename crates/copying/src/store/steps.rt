@@ -1,14 +1,14 @@
+//! The transitions of the collector, each as a function over words and registers.
+
 use super::Store;
 use crate::collector::Collector;
 use crate::collector::Target;
 use crate::collector::Transition;
 
-ghost use Prim.Native.Nat.{ℕ, _+_, _-_, _*_, _/_, _%_, _^_, _<_, _≤_};
+ghost use Prim.Native.Nat.{_+_, _-_, _*_, _/_, _%_, _<_};
 ghost use mathlib.Core.Path.{_≡_};
-ghost use mathlib.Core.Bool.{Bool, true, false};
-ghost use lib.ListN.{length, getD, set};
 ghost use Rattle.copying.specs.View.{view};
-ghost use Rattle.copying.specs.Words.{Bounds, «both-halves», State, «word-at», «put-at», «kind-at», «place-of», reserved, «next-place», Room, target as Aim, Forwardable, «forwarded-state», «forwarded-reference», «slots-from», started, Passable, passed, Openable, opened, «fields-from», Writable, written, Copyable, «copied-field», «reserved-field», finished, transition, Ready, stepped, resting as Resting, Watched, «fitting-field» as «Fitting-field»};
+ghost use Rattle.copying.specs.Words.{Bounds, «both-halves», «word-at», «put-at», «kind-at», «place-of», reserved, «next-place», Room, target as Aim, Forwardable, «forwarded-state», «forwarded-reference», «slots-from», started, Passable, passed, Openable, opened, «fields-from», Writable, written, Copyable, «copied-field», «reserved-field», finished, transition, Ready, stepped, resting as Resting, Watched, «fitting-field» as «Fitting-field»};
 
 const HEAD: u32 = 2;
 const KINDS: u32 = 16;
@@ -38,7 +38,7 @@ impl<'m> Store<'m> {
         self.word(at + 1) % KINDS
     }
 
-    // The reference of the place reserved for the record at `at`, or 0.
+    /// The reference of the place reserved for the record at `at`, or 0.
     pub(super) fn place_of(&self, at: u32) -> u32
         requires { ⌜ Bounds (view (now self)) ⌝ }
         requires { ⌜ at + 1 < both-halves (view (now self)) ⌝ }
@@ -47,7 +47,7 @@ impl<'m> Store<'m> {
         self.word(at + 1) / KINDS
     }
 
-    // What a reference leads to.
+    /// What a reference leads to.
     pub(super) fn target(&self, reference: u32) -> Target
         requires { ⌜ Bounds (view (now self)) ⌝ }
         requires { ⌜ (0 < reference → reference < both-halves (view (now self))) ⌝ }
@@ -62,7 +62,7 @@ impl<'m> Store<'m> {
         }
     }
 
-    // Takes the next words at the low end for the old record at `from`; gives the place's reference.
+    /// Takes the next words at the low end for the old record at `from`; gives the place's reference.
     pub(super) fn reserve(&mut self, from: u32) -> u32
         requires { ⌜ Bounds (view (now self)) ⌝ }
         requires { ⌜ Room (view (now self)) from ⌝ }
@@ -77,7 +77,7 @@ impl<'m> Store<'m> {
         place + 1
     }
 
-    // What a reference becomes when it is put anywhere in a cycle: the place, reserved if there is none.
+    /// What a reference becomes when it is put anywhere in a cycle: the place, reserved if there is none.
     pub(super) fn forwarded(&mut self, reference: u32) -> u32
         requires { ⌜ Bounds (view (now self)) ⌝ }
         requires { ⌜ Forwardable (view (now self)) reference ⌝ }
@@ -176,7 +176,7 @@ impl<'m> Store<'m> {
         matches!(self.collector, Collector::Rest)
     }
 
-    // The transition that fits.
+    /// The transition that fits.
     fn fitting(&self) -> Transition
         requires { ⌜ Bounds (view (now self)) ⌝ }
         requires { ⌜ Watched (view (now self)) (view (now self) .collector) ⌝ }
@@ -211,7 +211,7 @@ impl<'m> Store<'m> {
         }
     }
 
-    // Makes one step; says whether it ended a cycle.
+    /// Makes one step; says whether it ended a cycle.
     pub(crate) fn step(&mut self) -> bool
         requires { ⌜ Bounds (view (now self)) ⌝ }
         requires { ⌜ Ready (view (now self)) ⌝ }

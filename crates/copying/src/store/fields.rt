@@ -1,17 +1,17 @@
+//! Where the fields of a half-moved record are, and the words of a new record.
+
 use super::Store;
 use crate::collector::Collector;
 
-ghost use Prim.Native.Nat.{ℕ, _+_, _-_, _*_, _/_, _%_, _^_, _<_, _≤_};
+ghost use Prim.Native.Nat.{_+_, _-_, _<_, _≤_};
 ghost use mathlib.Core.Path.{_≡_};
-ghost use mathlib.Core.Bool.{Bool, true, false};
-ghost use lib.ListN.{length, getD, set};
 ghost use Rattle.copying.specs.View.{view};
-ghost use Rattle.copying.specs.Words.{Bounds, «both-halves», State, «word-at», «put-at», front as Front, filled as Filled, own as Own, source as Source, home as Home, Found, zeros, «set-memory», «made-record», «made-at», «fields-of»};
+ghost use Rattle.copying.specs.Words.{Bounds, «both-halves», «word-at», «put-at», front as Front, filled as Filled, own as Own, source as Source, home as Home, Found, zeros, «set-memory», «made-record», «made-at», «fields-of»};
 
 const HEAD: u32 = 2;
 
 impl<'m> Store<'m> {
-    // Where the places begin that have not been closed, and how many fields of the first have been copied.
+    /// Where the places begin that have not been closed, and how many fields of the first have been copied.
     pub(super) fn front(&self) -> u32
         requires { ⌜ Bounds (view (now self)) ⌝ }
         ensures { λ r. ⌜ r ≡ Front (now (self .entry) .halves .base) (now (self .entry) .halves .size) (now (self .entry) .collector) ⌝ }
@@ -34,7 +34,7 @@ impl<'m> Store<'m> {
         }
     }
 
-    // Is field `i` of the record at `at` in the new half already its own?
+    /// Is field `i` of the record at `at` in the new half already its own?
     fn owns(&self, at: u32, i: u32) -> bool
         requires { ⌜ Bounds (view (now self)) ⌝ }
         ensures { λ r. ⌜ r ≡ Own (now (self .entry) .halves) (now (self .entry) .collector) at i ⌝ }
@@ -42,7 +42,7 @@ impl<'m> Store<'m> {
         self.halves.base + self.halves.high <= at || at < self.front() || at == self.front() && i < self.filled()
     }
 
-    // The old record of a place.
+    /// The old record of a place.
     fn source(&self, at: u32) -> u32
         requires { ⌜ Bounds (view (now self)) ⌝ }
         requires { ⌜ at < both-halves (view (now self)) ⌝ ∗ ⌜ 0 < word-at (view (now self)) at ⌝ }
@@ -54,7 +54,7 @@ impl<'m> Store<'m> {
         }
     }
 
-    // The record that has field `i` of the record at `at` now: the new copy if the field has been copied, else the old one.
+    /// The record that has field `i` of the record at `at` now: the new copy if the field has been copied, else the old one.
     fn home(&self, at: u32, i: u32) -> u32
         requires { ⌜ Bounds (view (now self)) ⌝ }
         requires { ⌜ Found (view (now self)) at i ⌝ }
@@ -96,7 +96,7 @@ impl<'m> Store<'m> {
         }
     }
 
-    // Puts a record of the kind at the high end; gives its address.
+    /// Puts a record of the kind at the high end; gives its address.
     pub(super) fn place_record(&mut self, kind: u32, number: u32) -> u32
         requires { ⌜ Bounds (view (now self)) ⌝ }
         requires { ⌜ kind < 16 ⌝ ∗ ⌜ now self .halves .low + (2 + fields-of (view (now self) .book) kind) ≤ now self .halves .high ⌝ }
