@@ -1,5 +1,7 @@
 //! The copying heap: records in two halves of lent words, moved one field a step.
 
+#![tactic(auto)]
+
 pub mod heap;
 
 ghost use Rattle.semispace.specs.Stands.{Stands};

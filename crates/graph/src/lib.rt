@@ -1,5 +1,7 @@
 //! The graph of linked records, and what a heap means.
 
+#![tactic(auto)]
+
 pub mod collected;
 pub mod heap;
 

@@ -1,5 +1,7 @@
 //! Kinds of records, the book that numbers them, and the numbers of refused calls.
 
+#![tactic(auto)]
+
 pub mod book;
 pub mod kind;
 pub mod laws;

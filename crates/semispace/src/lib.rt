@@ -1,5 +1,7 @@
 //! The two halves of a copying heap as states: their registers, the transitions, the invariant, and what is proved of them.
 
+#![tactic(auto)]
+
 pub mod collector;
 pub mod halves;
 pub mod store;

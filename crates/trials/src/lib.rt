@@ -1,5 +1,7 @@
 //! Tests of the heaps and the keeper, in a crate of their own: a crate with tests is proved twice.
 
+#![tactic(auto)]
+
 #[cfg(test)]
 mod copying_heap;
 pub mod hollow;

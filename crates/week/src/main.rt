@@ -1,5 +1,7 @@
 //! Follows the records of axles on a bridge: a driver makes one for each axle, a task follows the links back.
 
+#![tactic(auto)]
+
 mod axles;
 mod refused;
 

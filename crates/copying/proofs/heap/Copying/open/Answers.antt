@@ -8,8 +8,8 @@ use Rattle.semispace.specs.Opening.{opening_refusal}
 use Rattle.semispace.proofs.Opened.{opened_whole, opened_means, opened_opened, sized}
 use Rattle.copying.proofs.heap.Copying.open.Goals as goal
 
-pub invariant-of-result : goal.invariant-of-result
-invariant-of-result c = (∣ subst Whole (sym c.open.ensures) (opened_whole c.args.memory.now c.args.slots (kinds_of c.args.book) c.args.first) ∣₁, tt)
+pub invariant_of-result : goal.invariant_of-result
+invariant_of-result c = record { whole = ∣ subst Whole (sym c.open.ensures) (opened_whole c.args.memory.now c.args.slots (kinds_of c.args.book) c.args.first) ∣₁ }
 
 pub returns : goal.returns
 returns c =

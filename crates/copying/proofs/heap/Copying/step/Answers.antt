@@ -13,11 +13,11 @@ use Rattle.copying.proofs.heap.Copying.step.Goals as goal
 pub step-requires : goal.step-requires
 step-requires c = ∥∥₁_elim c.args.self.now.whole (×_prop (bounds_prop (view c.args.self.now.store)) (ready_prop (view c.args.self.now.store))) (λ W. (W.sound.bounds, step_ready (view c.args.self.now.store) W.sound))
 
-pub invariant-of-self : goal.invariant-of-self
-invariant-of-self c =
+pub invariant_of-self : goal.invariant_of-self
+invariant_of-self c =
     let P : State → Type 0 = λ s. ∥ Whole s ∥₁ in
     let s = view c.args.self.now.store in
-    (subst P (sym c.step.ensures.0) (∥∥₁_map c.args.self.now.whole (λ W. record { sound = step_sound s W.sound; known = step_known s W.sound W.known })), tt)
+    record { whole = subst P (sym c.step.ensures.0) (∥∥₁_map c.args.self.now.whole (λ W. record { sound = step_sound s W.sound; known = step_known s W.sound W.known })) }
 
 pub returns : goal.returns
 returns c = record { after = c.step.ensures.0; ended = c.step.ensures.1; means = step_report (view c.args.self.now.store) _ c.args.self.now.whole c.step.ensures.0 }

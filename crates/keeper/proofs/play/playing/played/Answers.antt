@@ -21,9 +21,9 @@ loop-i-preserved g c =
     let u = state g.H.Heap.meaning g.P.Pacing.rate g.P.Pacing.asks c.loop-i.keeper in
     let t = state g.H.Heap.meaning g.P.Pacing.rate g.P.Pacing.asks c.obey-reply.new.keeper in
     let i = c.loop-i.invariant in
-    let p = c.push-reserved.ensures in
+    let p = c.push_reserved.ensures in
     let o = c.obey-reply.ensures in (
-      next_order s u t (numbers c.args.strays) (numbers c.loop-i.bills) (numbers c.obey-reply.new.bills) c.args.orders.now (vec_items c.loop-i.replies) (vec_items c.push-reserved.new.self) c.loop-i.i _ c.obey-reply.result c.loop-i-test.true p.items o.held i.0 o.did,
+      next_order s u t (numbers c.args.strays) (numbers c.loop-i.bills) (numbers c.obey-reply.new.bills) c.args.orders.now (vec_items c.loop-i.replies) (vec_items c.push_reserved.new.self) c.loop-i.i _ c.obey-reply.result c.loop-i-test.true p.items o.held i.0 o.did,
       omega (arith, p.len, i.1),
       subst (λ n. length c.args.orders.now ≤ n) (sym p.capacity) i.2,
       omega (arith, o.cap, o.len, i.3),

@@ -51,9 +51,9 @@ returns-in-Err g c =
     let h = c.in-Err.ensures.event in
     record {
       did = named _ (get_or (numbers c.args.bills.now) c.args.place 0) b.number unsettled s t (in_numbers xs c.args.place l) n h.0;
-      held = pushed (vec_items c.remove-bill.new.self) (vec_items c.push-reserved.new.self) c.bill.result c.push-reserved.ensures.items
+      held = pushed (vec_items c.remove-bill.new.self) (vec_items c.push_reserved.new.self) c.bill.result c.push_reserved.ensures.items
           ∙ ap (λ (ys : List ℕ). ys ++ (c.bill.result.number ∷ [])) (removed_numbers xs (vec_items c.remove-bill.new.self) c.args.place c.remove-bill.ensures.items)
           ∙ ap (λ (k : ℕ). remove (numbers c.args.bills.now) c.args.place ++ (k ∷ [])) (ap number c.bill.ensures ∙ h.1 ∙ sym n);
-      cap = c.push-reserved.ensures.capacity ∙ c.remove-bill.ensures.capacity;
-      len = omega (arith, c.push-reserved.ensures.len, c.remove-bill.ensures.len);
+      cap = c.push_reserved.ensures.capacity ∙ c.remove-bill.ensures.capacity;
+      len = omega (arith, c.push_reserved.ensures.len, c.remove-bill.ensures.len);
     }

@@ -4,15 +4,17 @@ use Rattle.kinds.specs.Books.{book_list}
 use Rattle.kinds.proofs.Listing.{shapes_more, counted_more, lawful_more}
 use Rattle.kinds.proofs.book.Book.push.Goals as goal
 
-pub invariant-of-self : goal.invariant-of-self
-invariant-of-self c =
+pub invariant_of-self : goal.invariant_of-self
+invariant_of-self c =
     let room : c.args.self.now.count < length c.args.self.now.rows = omega arith in
     let lawful =
     lawful_more c.args.self.now.rows c.args.self.now.count c.row.result room c.args.self.now.sound
-    (ap row_lawful c.row.ensures ∙ c.args.kind.rules) in (
-      omega arith,
-      (counted_more c.args.self.now.rows c.args.self.now.count c.row.result room c.args.self.now.counted, (lawful, tt)),
-    )
+    (ap row_lawful c.row.ensures ∙ c.args.kind.rules) in
+    record {
+      few = omega arith;
+      counted = counted_more c.args.self.now.rows c.args.self.now.count c.row.result room c.args.self.now.counted;
+      sound = lawful;
+    }
 
 pub returns : goal.returns
 returns c =

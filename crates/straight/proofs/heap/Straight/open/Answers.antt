@@ -8,11 +8,11 @@ use Rattle.straight.specs.Opening.{opening_refusal}
 use Rattle.straight.proofs.Openings.{opened_whole, opened_means, opened_opened, sized}
 use Rattle.straight.proofs.heap.Straight.open.Goals as goal
 
-pub invariant-of-result : goal.invariant-of-result
-invariant-of-result c =
+pub invariant_of-result : goal.invariant_of-result
+invariant_of-result c =
     let few : length (kinds_of c.args.book) ≤ 16 = subst (λ n. n ≤ 16) (sym c.args.book.counted) c.args.book.few in
     let small : c.args.first ≤ 4294967296 = omega arith in
-    (∣ subst Whole (sym c.open.ensures) (opened_whole c.args.memory.now c.args.slots (kinds_of c.args.book) c.args.first few small) ∣₁, tt)
+    record { whole = ∣ subst Whole (sym c.open.ensures) (opened_whole c.args.memory.now c.args.slots (kinds_of c.args.book) c.args.first few small) ∣₁ }
 
 pub returns : goal.returns
 returns c =

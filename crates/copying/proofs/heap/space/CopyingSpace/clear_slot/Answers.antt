@@ -7,8 +7,8 @@ use Rattle.copying.proofs.heap.space.CopyingSpace.clear_slot.Goals as goal
 pub empty-requires : goal.empty-requires
 empty-requires c = drop_slot (view c.args.self.now.store) c.args.self.now.whole c.args.slot c.requires
 
-pub invariant-of-self : goal.invariant-of-self
-invariant-of-self c = (after_whole (view c.args.self.now.store) c.args.self.now.whole (subst (λ n. n ≤ 16) (sym c.args.self.now.store.book.counted) c.args.self.now.store.book.few) (view c.empty.new.self) (drop c.args.slot) c.requires c.empty.ensures, tt)
+pub invariant_of-self : goal.invariant_of-self
+invariant_of-self c = record { whole = after_whole (view c.args.self.now.store) c.args.self.now.whole (subst (λ n. n ≤ 16) (sym c.args.self.now.store.book.counted) c.args.self.now.store.book.few) (view c.empty.new.self) (drop c.args.slot) c.requires c.empty.ensures }
 
 pub returns : goal.returns
 returns c = record { means = after_called (view c.args.self.now.store) c.args.self.now.whole (subst (λ n. n ≤ 16) (sym c.args.self.now.store.book.counted) c.args.self.now.store.book.few) (view c.empty.new.self) (drop c.args.slot) (done) c.requires (refl) c.empty.ensures; acts = (refl, c.empty.ensures) }

@@ -7,8 +7,8 @@ use Rattle.copying.proofs.heap.space.CopyingSpace.copy_slot.Goals as goal
 pub hold-requires : goal.hold-requires
 hold-requires c = hold_led (view c.args.self.now.store) c.args.self.now.whole c.args.slot c.args.to c.requires
 
-pub invariant-of-self : goal.invariant-of-self
-invariant-of-self c = (after_whole (view c.args.self.now.store) c.args.self.now.whole (subst (λ n. n ≤ 16) (sym c.args.self.now.store.book.counted) c.args.self.now.store.book.few) (view c.hold.new.self) (hold c.args.slot c.args.to) c.requires c.hold.ensures, tt)
+pub invariant_of-self : goal.invariant_of-self
+invariant_of-self c = record { whole = after_whole (view c.args.self.now.store) c.args.self.now.whole (subst (λ n. n ≤ 16) (sym c.args.self.now.store.book.counted) c.args.self.now.store.book.few) (view c.hold.new.self) (hold c.args.slot c.args.to) c.requires c.hold.ensures }
 
 pub returns : goal.returns
 returns c = record { means = after_called (view c.args.self.now.store) c.args.self.now.whole (subst (λ n. n ≤ 16) (sym c.args.self.now.store.book.counted) c.args.self.now.store.book.few) (view c.hold.new.self) (hold c.args.slot c.args.to) (done) c.requires (refl) c.hold.ensures; acts = (refl, c.hold.ensures) }

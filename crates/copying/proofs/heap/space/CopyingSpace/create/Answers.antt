@@ -7,8 +7,8 @@ use Rattle.copying.proofs.heap.space.CopyingSpace.create.Goals as goal
 pub make-requires : goal.make-requires
 make-requires c = make_room (view c.args.self.now.store) c.args.self.now.whole (subst (λ n. n ≤ 16) (sym c.args.self.now.store.book.counted) c.args.self.now.store.book.few) c.args.slot c.args.kind c.requires
 
-pub invariant-of-self : goal.invariant-of-self
-invariant-of-self c = (after_whole (view c.args.self.now.store) c.args.self.now.whole (subst (λ n. n ≤ 16) (sym c.args.self.now.store.book.counted) c.args.self.now.store.book.few) (view c.make.new.self) (make c.args.slot c.args.kind) c.requires c.make.ensures.after, tt)
+pub invariant_of-self : goal.invariant_of-self
+invariant_of-self c = record { whole = after_whole (view c.args.self.now.store) c.args.self.now.whole (subst (λ n. n ≤ 16) (sym c.args.self.now.store.book.counted) c.args.self.now.store.book.few) (view c.make.new.self) (make c.args.slot c.args.kind) c.requires c.make.ensures.after }
 
 pub returns : goal.returns
 returns c = record { means = after_called (view c.args.self.now.store) c.args.self.now.whole (subst (λ n. n ≤ 16) (sym c.args.self.now.store.book.counted) c.args.self.now.store.book.few) (view c.make.new.self) (make c.args.slot c.args.kind) (word c.make.result) c.requires (ap word c.make.ensures.number) c.make.ensures.after; acts = (ap word c.make.ensures.number, c.make.ensures.after) }

@@ -7,8 +7,8 @@ use Rattle.copying.proofs.heap.space.CopyingSpace.load_reference.Goals as goal
 pub follow-requires : goal.follow-requires
 follow-requires c = let h = follow_held (view c.args.self.now.store) c.args.self.now.whole c.args.slot c.args.field c.args.to c.requires in record { held = h.0; to = h.1; led = h.2 }
 
-pub invariant-of-self : goal.invariant-of-self
-invariant-of-self c = (after_whole (view c.args.self.now.store) c.args.self.now.whole (subst (λ n. n ≤ 16) (sym c.args.self.now.store.book.counted) c.args.self.now.store.book.few) (view c.follow.new.self) (follow c.args.slot c.args.field c.args.to) c.requires c.follow.ensures, tt)
+pub invariant_of-self : goal.invariant_of-self
+invariant_of-self c = record { whole = after_whole (view c.args.self.now.store) c.args.self.now.whole (subst (λ n. n ≤ 16) (sym c.args.self.now.store.book.counted) c.args.self.now.store.book.few) (view c.follow.new.self) (follow c.args.slot c.args.field c.args.to) c.requires c.follow.ensures }
 
 pub returns : goal.returns
 returns c = record { means = after_called (view c.args.self.now.store) c.args.self.now.whole (subst (λ n. n ≤ 16) (sym c.args.self.now.store.book.counted) c.args.self.now.store.book.few) (view c.follow.new.self) (follow c.args.slot c.args.field c.args.to) (done) c.requires (refl) c.follow.ensures; acts = (refl, c.follow.ensures) }

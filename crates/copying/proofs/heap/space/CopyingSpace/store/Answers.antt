@@ -7,8 +7,8 @@ use Rattle.copying.proofs.heap.space.CopyingSpace.store.Goals as goal
 pub write-requires : goal.write-requires
 write-requires c = write_held (view c.args.self.now.store) c.args.self.now.whole c.args.slot c.args.field c.args.word c.requires
 
-pub invariant-of-self : goal.invariant-of-self
-invariant-of-self c = (after_whole (view c.args.self.now.store) c.args.self.now.whole (subst (λ n. n ≤ 16) (sym c.args.self.now.store.book.counted) c.args.self.now.store.book.few) (view c.write.new.self) (write c.args.slot c.args.field c.args.word) c.requires c.write.ensures, tt)
+pub invariant_of-self : goal.invariant_of-self
+invariant_of-self c = record { whole = after_whole (view c.args.self.now.store) c.args.self.now.whole (subst (λ n. n ≤ 16) (sym c.args.self.now.store.book.counted) c.args.self.now.store.book.few) (view c.write.new.self) (write c.args.slot c.args.field c.args.word) c.requires c.write.ensures }
 
 pub returns : goal.returns
 returns c = record { means = after_called (view c.args.self.now.store) c.args.self.now.whole (subst (λ n. n ≤ 16) (sym c.args.self.now.store.book.counted) c.args.self.now.store.book.few) (view c.write.new.self) (write c.args.slot c.args.field c.args.word) (done) c.requires (refl) c.write.ensures; acts = (refl, c.write.ensures) }

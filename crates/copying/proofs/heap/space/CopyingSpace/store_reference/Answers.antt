@@ -7,8 +7,8 @@ use Rattle.copying.proofs.heap.space.CopyingSpace.store_reference.Goals as goal
 pub link-requires : goal.link-requires
 link-requires c = link_held (view c.args.self.now.store) c.args.self.now.whole c.args.slot c.args.field c.args.from c.requires
 
-pub invariant-of-self : goal.invariant-of-self
-invariant-of-self c = (after_whole (view c.args.self.now.store) c.args.self.now.whole (subst (λ n. n ≤ 16) (sym c.args.self.now.store.book.counted) c.args.self.now.store.book.few) (view c.link.new.self) (link c.args.slot c.args.field c.args.from) c.requires c.link.ensures, tt)
+pub invariant_of-self : goal.invariant_of-self
+invariant_of-self c = record { whole = after_whole (view c.args.self.now.store) c.args.self.now.whole (subst (λ n. n ≤ 16) (sym c.args.self.now.store.book.counted) c.args.self.now.store.book.few) (view c.link.new.self) (link c.args.slot c.args.field c.args.from) c.requires c.link.ensures }
 
 pub returns : goal.returns
 returns c = record { means = after_called (view c.args.self.now.store) c.args.self.now.whole (subst (λ n. n ≤ 16) (sym c.args.self.now.store.book.counted) c.args.self.now.store.book.few) (view c.link.new.self) (link c.args.slot c.args.field c.args.from) (done) c.requires (refl) c.link.ensures; acts = (refl, c.link.ensures) }

@@ -4,8 +4,8 @@ use Rattle.straight.specs.Stored.{state}
 use Rattle.straight.proofs.Answering.{top_inside, after_called}
 use Rattle.straight.proofs.heap.calls.StraightHeap.spare.Goals as goal
 
-pub overflow-sub-result : goal.overflow-sub-result
-overflow-sub-result c = top_inside (state c.args.self.now.store) c.args.self.now.whole
+pub overflow_sub-result : goal.overflow_sub-result
+overflow_sub-result c = top_inside (state c.args.self.now.store) c.args.self.now.whole
 
 pub returns : goal.returns
 returns c =

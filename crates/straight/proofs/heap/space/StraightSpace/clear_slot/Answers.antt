@@ -7,8 +7,8 @@ use Rattle.straight.proofs.heap.space.StraightSpace.clear_slot.Goals as goal
 pub empty-requires : goal.empty-requires
 empty-requires c = drop_slot (state c.args.self.now.store) c.args.self.now.whole c.args.slot c.requires
 
-pub invariant-of-self : goal.invariant-of-self
-invariant-of-self c = (after_whole (state c.args.self.now.store) c.args.self.now.whole (state c.empty.new.self) (drop c.args.slot) c.requires c.empty.ensures, tt)
+pub invariant_of-self : goal.invariant_of-self
+invariant_of-self c = record { whole = after_whole (state c.args.self.now.store) c.args.self.now.whole (state c.empty.new.self) (drop c.args.slot) c.requires c.empty.ensures }
 
 pub returns : goal.returns
 returns c = record { means = after_called (state c.args.self.now.store) c.args.self.now.whole (state c.empty.new.self) (drop c.args.slot) (done) c.requires (refl) c.empty.ensures; acts = (refl, c.empty.ensures) }

@@ -7,8 +7,8 @@ use Rattle.straight.proofs.heap.space.StraightSpace.copy_slot.Goals as goal
 pub hold-requires : goal.hold-requires
 hold-requires c = let h = hold_slots (state c.args.self.now.store) c.args.self.now.whole c.args.slot c.args.to c.requires in record { slot = h.0; to = h.1 }
 
-pub invariant-of-self : goal.invariant-of-self
-invariant-of-self c = (after_whole (state c.args.self.now.store) c.args.self.now.whole (state c.hold.new.self) (hold c.args.slot c.args.to) c.requires c.hold.ensures, tt)
+pub invariant_of-self : goal.invariant_of-self
+invariant_of-self c = record { whole = after_whole (state c.args.self.now.store) c.args.self.now.whole (state c.hold.new.self) (hold c.args.slot c.args.to) c.requires c.hold.ensures }
 
 pub returns : goal.returns
 returns c = record { means = after_called (state c.args.self.now.store) c.args.self.now.whole (state c.hold.new.self) (hold c.args.slot c.args.to) (done) c.requires (refl) c.hold.ensures; acts = (refl, c.hold.ensures) }

@@ -7,8 +7,8 @@ use Rattle.straight.proofs.heap.space.StraightSpace.create.Goals as goal
 pub lay-requires : goal.lay-requires
 lay-requires c = make_room (state c.args.self.now.store) c.args.self.now.whole c.args.slot c.args.kind c.requires
 
-pub invariant-of-self : goal.invariant-of-self
-invariant-of-self c = (after_whole (state c.args.self.now.store) c.args.self.now.whole (state c.lay.new.self) (make c.args.slot c.args.kind) c.requires c.lay.ensures.after, tt)
+pub invariant_of-self : goal.invariant_of-self
+invariant_of-self c = record { whole = after_whole (state c.args.self.now.store) c.args.self.now.whole (state c.lay.new.self) (make c.args.slot c.args.kind) c.requires c.lay.ensures.after }
 
 pub returns : goal.returns
 returns c = record { means = after_called (state c.args.self.now.store) c.args.self.now.whole (state c.lay.new.self) (make c.args.slot c.args.kind) (word c.lay.result) c.requires (ap word c.lay.ensures.number) c.lay.ensures.after; acts = (ap word c.lay.ensures.number, c.lay.ensures.after) }

@@ -7,8 +7,8 @@ use Rattle.straight.proofs.heap.space.StraightSpace.load_reference.Goals as goal
 pub follow-requires : goal.follow-requires
 follow-requires c = let h = follow_held (state c.args.self.now.store) c.args.self.now.whole c.args.slot c.args.field c.args.to c.requires in record { held = h.0; to = h.1 }
 
-pub invariant-of-self : goal.invariant-of-self
-invariant-of-self c = (after_whole (state c.args.self.now.store) c.args.self.now.whole (state c.follow.new.self) (follow c.args.slot c.args.field c.args.to) c.requires c.follow.ensures, tt)
+pub invariant_of-self : goal.invariant_of-self
+invariant_of-self c = record { whole = after_whole (state c.args.self.now.store) c.args.self.now.whole (state c.follow.new.self) (follow c.args.slot c.args.field c.args.to) c.requires c.follow.ensures }
 
 pub returns : goal.returns
 returns c = record { means = after_called (state c.args.self.now.store) c.args.self.now.whole (state c.follow.new.self) (follow c.args.slot c.args.field c.args.to) (done) c.requires (refl) c.follow.ensures; acts = (refl, c.follow.ensures) }

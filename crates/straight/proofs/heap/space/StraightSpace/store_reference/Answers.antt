@@ -7,8 +7,8 @@ use Rattle.straight.proofs.heap.space.StraightSpace.store_reference.Goals as goa
 pub link-requires : goal.link-requires
 link-requires c = let h = link_held (state c.args.self.now.store) c.args.self.now.whole c.args.slot c.args.field c.args.from c.requires in record { held = h.0; from = h.1 }
 
-pub invariant-of-self : goal.invariant-of-self
-invariant-of-self c = (after_whole (state c.args.self.now.store) c.args.self.now.whole (state c.link.new.self) (link c.args.slot c.args.field c.args.from) c.requires c.link.ensures, tt)
+pub invariant_of-self : goal.invariant_of-self
+invariant_of-self c = record { whole = after_whole (state c.args.self.now.store) c.args.self.now.whole (state c.link.new.self) (link c.args.slot c.args.field c.args.from) c.requires c.link.ensures }
 
 pub returns : goal.returns
 returns c = record { means = after_called (state c.args.self.now.store) c.args.self.now.whole (state c.link.new.self) (link c.args.slot c.args.field c.args.from) (done) c.requires (refl) c.link.ensures; acts = (refl, c.link.ensures) }
