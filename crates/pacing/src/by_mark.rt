@@ -36,11 +36,11 @@ impl Pacing for ByMark {
 
     ghost asks = { λ p steps words spare. marked p.rate p.mark steps words spare };
 
-    ghost some = { first_offset (Prim.search rules, Prim.grind (arith, Self.row.coded.inj)) };
+    ghost some = { first_of (Prim.search rules, Prim.grind (arith, Self.row.coded.inj)) };
 
-    ghost few = { first_offset (Prim.search rules, Prim.grind (arith, Self.row.coded.inj)) };
+    ghost few = { first_of (Prim.search rules, Prim.grind (arith, Self.row.coded.inj)) };
 
-    ghost enough = { first_offset (Prim.search rules, Prim.grind (arith, Self.row.coded.inj)) };
+    ghost enough = { first_of (Prim.search rules, Prim.grind (arith, Self.row.coded.inj)) };
 
     fn owed(&self, steps: u32, words: u32, spare: u32) -> u64 {
         let missing = (self.rate as u64 * words as u64).saturating_sub(steps as u64);

@@ -31,11 +31,11 @@ impl Pacing for ByWord {
 
     ghost asks = { λ p steps words spare. missing p.rate steps words };
 
-    ghost some = { first_offset (Prim.search rules, Prim.grind (arith, Self.row.coded.inj)) };
+    ghost some = { first_of (Prim.search rules, Prim.grind (arith, Self.row.coded.inj)) };
 
-    ghost few = { first_offset (Prim.search rules, Prim.grind (arith, Self.row.coded.inj)) };
+    ghost few = { first_of (Prim.search rules, Prim.grind (arith, Self.row.coded.inj)) };
 
-    ghost enough = { first_offset (Prim.search rules, Prim.grind (arith, Self.row.coded.inj)) };
+    ghost enough = { first_of (Prim.search rules, Prim.grind (arith, Self.row.coded.inj)) };
 
     fn owed(&self, steps: u32, words: u32, _spare: u32) -> u64 {
         (self.rate as u64 * words as u64).saturating_sub(steps as u64)
