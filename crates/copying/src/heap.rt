@@ -5,7 +5,7 @@ ghost use Rattle.semispace.specs.Graphs.{Whole};
 
 use semispace::store::Store;
 
-pub mod calls;
+pub mod as_heap;
 pub mod idling;
 pub mod opening;
 mod space;

@@ -2,7 +2,7 @@
 use Rattle.std.proofs.Common.{◌≡◌, ℕ, zero, suc, ◌+◌, ◌-◌, ◌<◌, ◌≤◌, Bool, true, false, cond, eqb, ◌⊎◌, List, [], ◌∷◌, map, length, get_or, take, set, sym, refl, ap, ◌∙◌, subst, inl, inr, ⊎_elim, suc-le-suc, zero-le, arith}
 use lib.Seq.{take-set-lt}
 use Rattle.std.proofs.lemmas.Bool.{cond-true, cond-false, cond_both, cases_eq, cases_Bool}
-use Rattle.std.proofs.lemmas.List.{length-set, get_or-set_same, get_or-set_other, map_set, get_or-take}
+use Rattle.std.proofs.lemmas.List.{length-set, get_or-set_same, get_or-set_other, map-set, get_or-take}
 use Rattle.kinds.specs.Shapes.{Shape}
 use Rattle.graph.specs.Graph.{Graph, ◌∈◌, size, refers}
 use Rattle.graph.specs.Calls.{with_slot, with_field}
@@ -68,7 +68,7 @@ module _ (s : State) (w : Whole s) where
     unfolding raw
     slot_raw =
         let e : names (with_slots s (set s.slots b x)) ≡ set (names s) b (name s.memory x) =
-        ap (map (name s.memory)) (take-set-lt s.count s.slots b x l) ∙ map_set (name s.memory) (take s.count s.slots) b x in
+        ap (map (name s.memory)) (take-set-lt s.count s.slots b x l) ∙ map-set (name s.memory) (take s.count s.slots) b x in
         λ i. record { slots = e i; next = s.next; records = (raw_of s).records }
 
   -- a field of a slot's record is set to a word, or to a reference that leads to a record

@@ -2,7 +2,7 @@
 use Rattle.std.proofs.Common.{◌≡◌, ℕ, ◌+◌, ◌-◌, ◌<◌, ◌≤◌, Bool, true, false, cond, ◌⊎◌, List, [], ◌∷◌, ◌++◌, map, length, get_or, take, set, sym, refl, ap, ◌∙◌, subst, inl, inr, ⊎_elim, arith}
 use lib.Seq.{take-set-lt}
 use Rattle.std.proofs.lemmas.Bool.{cases_eq, cond_both}
-use Rattle.std.proofs.lemmas.List.{length-set, get_or-set_same, get_or-set_other, map_set, get_or-take}
+use Rattle.std.proofs.lemmas.List.{length-set, get_or-set_same, get_or-set_other, map-set, get_or-take}
 use Rattle.kinds.specs.Shapes.{Shape}
 use Rattle.graph.specs.Graph.{◌∈◌, size, refers}
 use Rattle.graph.specs.Calls.{make, changed}
@@ -138,7 +138,7 @@ module _ (s : State) (w : Whole s) (a k : ℕ) (l : a < s.count) (known : k < le
   names_made : names (words_after s (make a k)) ≡ set (names s) a s.next
   names_made =
       ap (map (name mem')) (take-set-lt s.count s.slots a (s.top + 1) l)
-      ∙ map_set (name mem') (take s.count s.slots) a (s.top + 1)
+      ∙ map-set (name mem') (take s.count s.slots) a (s.top + 1)
       ∙ ap (λ y. set (map (name mem') (take s.count s.slots)) a y) (name_full mem' (s.top + 1) (omega arith) ∙ ap (λ y. get_or mem' y 0) (back s.top) ∙ laid_number mem s.top s.next k n fits)
       ∙ ap (λ xs. set xs a s.next)
       (map_names (name mem') (name mem) (take s.count s.slots)

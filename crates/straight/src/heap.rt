@@ -5,7 +5,7 @@ ghost use Rattle.straight.specs.Whole.{Whole};
 
 use crate::store::Store;
 
-pub mod calls;
+pub mod as_heap;
 pub mod laws;
 pub mod opening;
 mod space;

@@ -6,7 +6,7 @@ use Rattle.semispace.proofs.Clearing.{zeros_more, zeros_none, zeros_length}
 use Rattle.semispace.proofs.store.Store.clear_fields.Goals as goal
 
 pub loop-i-init : goal.loop-i-init
-loop-i-init c = (c.requires.0, ap (set_memory (view c.args.self.now)) (sym (zeros_none c.args.self.now.memory.now (c.args.at + 2))))
+loop-i-init c = (c.requires.bounds, ap (set_memory (view c.args.self.now)) (sym (zeros_none c.args.self.now.memory.now (c.args.at + 2))))
 
 pub put-requires : goal.put-requires
 put-requires c =

@@ -2,7 +2,7 @@ use Rattle.std.proofs.Common.{◌-◌, refl}
 use Rattle.graph.specs.Calls.{spare, word}
 use Rattle.straight.specs.Stored.{state}
 use Rattle.straight.proofs.Answering.{top_inside, after_called}
-use Rattle.straight.proofs.heap.calls.StraightHeap.spare.Goals as goal
+use Rattle.straight.proofs.heap.as_heap.StraightHeap.spare.Goals as goal
 
 pub overflow_sub-result : goal.overflow_sub-result
 overflow_sub-result c = top_inside (state c.args.self.now.store) c.args.self.now.whole

@@ -2,7 +2,7 @@ use Rattle.std.proofs.Common.{◌≤◌, sym, refl, subst}
 use Rattle.graph.specs.Calls.{spare, word}
 use Rattle.semispace.specs.View.{view}
 use Rattle.semispace.proofs.Answering.{after_called}
-use Rattle.copying.proofs.heap.calls.CopyingHeap.spare.Goals as goal
+use Rattle.copying.proofs.heap.as_heap.CopyingHeap.spare.Goals as goal
 
 pub returns : goal.returns
 returns c =
