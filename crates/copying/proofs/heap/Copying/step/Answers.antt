@@ -7,11 +7,15 @@ use Rattle.semispace.proofs.Stepping.{step_sound}
 use Rattle.semispace.proofs.Knowing.{step_known}
 use Rattle.semispace.proofs.Readying.{step_ready, ready_prop, bounds_prop}
 use Rattle.semispace.proofs.Reporting.{step_report}
-use mathlib.Core.HLevel.{×_prop}
 use Rattle.copying.proofs.heap.Copying.step.Goals as goal
 
 pub step-requires : goal.step-requires
-step-requires c = ∥∥₁_elim c.args.self.now.whole (×_prop (bounds_prop (view c.args.self.now.store)) (ready_prop (view c.args.self.now.store))) (λ W. (W.sound.bounds, step_ready (view c.args.self.now.store) W.sound))
+step-requires c =
+    let s = view c.args.self.now.store in
+    record {
+      bounds = ∥∥₁_elim c.args.self.now.whole (bounds_prop s) (λ W. W.sound.bounds);
+      ready = ∥∥₁_elim c.args.self.now.whole (ready_prop s) (λ W. step_ready s W.sound);
+    }
 
 pub invariant_of-self : goal.invariant_of-self
 invariant_of-self c =
