@@ -3,7 +3,8 @@
 
 `rt must-fail` takes only edits that reach the prover. An edit of .ci/by-type/ is one that must not get so far: it names
 a crate, a file of it, an old text that stands there once, the new text (one or more lines), and the error that the
-check must give in that file. Each is applied to a copy of the repository, with what `rt ci` left in target/.
+check must give in that file. Each is applied to a copy of the repository, in which nothing has been proved: what such an
+edit breaks is found before any proof.
 """
 
 import pathlib
@@ -31,7 +32,7 @@ def refused(copy, edit):
     if before.count(edit["old"]) != 1:
         return "its old text does not stand once in the file"
     target.write_text(before.replace(edit["old"], edit["new"]), encoding="utf8")
-    run = subprocess.run(["rt", "check", edit["crate"]], cwd=copy, capture_output=True, text=True)
+    run = subprocess.run(["rt", "check"], cwd=copy / "crates" / edit["crate"], capture_output=True, text=True)
     target.write_text(before, encoding="utf8")
     out = run.stdout + run.stderr
     found = [line for line in out.splitlines() if f"error[{edit['error']}]" in line and edit["file"] in line]
@@ -48,7 +49,7 @@ def main():
         sys.exit("by type: there is no edit to try")
     with tempfile.TemporaryDirectory() as folder:
         copy = pathlib.Path(folder) / "copy"
-        shutil.copytree(ROOT, copy, ignore=shutil.ignore_patterns(".git"), symlinks=True)
+        shutil.copytree(ROOT, copy, ignore=shutil.ignore_patterns(".git", "out"), symlinks=True)
         for path in edits:
             wrong = refused(copy, read_edit(path))
             if wrong:

@@ -1,5 +1,8 @@
 //! The two halves of memory.
 
+ghost use Rattle.std.specs.Prelude.{◌≡◌, ◌+◌, ◌-◌, ◌^◌, ◌<◌, ◌≤◌};
+ghost use Rattle.semispace.specs.Words.{grown as Grown, swapped as Swapped, lowered as Lowered, leads_new};
+
 /// The halves of memory: their size, where the new one begins, what is taken of it at its two ends, and what was taken of the old one.
 #[derive(Clone, Copy)]
 pub struct Halves {
@@ -9,4 +12,47 @@ pub struct Halves {
     pub high: u32,
     pub old_low: u32,
     pub old_high: u32,
+}
+
+impl Halves {
+    /// Does a reference lead into the new half?
+    pub(crate) fn leads_new(&self, reference: u32) -> bool
+        ensures { result ≡ leads_new self.now reference }
+    {
+        self.base < reference && reference - self.base <= self.size
+    }
+
+    pub(crate) fn swapped(&self) -> Halves
+        requires { self.now.base ≤ self.now.size }
+        ensures { result ≡ Swapped self.now }
+    {
+        Halves {
+            base: self.size - self.base,
+            low: 0,
+            high: self.size,
+            old_low: self.low,
+            old_high: self.high,
+            ..*self
+        }
+    }
+
+    pub(crate) fn grown(&self, words: u32) -> Halves
+        requires { self.now.low + words < 2 ^ 32 }
+        ensures { result ≡ Grown self.now words }
+    {
+        Halves {
+            low: self.low + words,
+            ..*self
+        }
+    }
+
+    pub(crate) fn lowered(&self, words: u32) -> Halves
+        requires { words ≤ self.now.high }
+        ensures { result ≡ Lowered self.now words }
+    {
+        Halves {
+            high: self.high - words,
+            ..*self
+        }
+    }
 }

@@ -8,7 +8,6 @@ use kinds::book::SealedBook;
 
 pub mod actions;
 pub mod fields;
-mod halves;
 pub mod opening;
 pub mod questions;
 pub mod steps;

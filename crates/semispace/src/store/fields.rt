@@ -4,7 +4,7 @@ ghost use Rattle.std.specs.Prelude.{◌≡◌, ◌+◌, ◌-◌, ◌<◌, ◌≤
 ghost use Rattle.semispace.specs.View.{view};
 ghost use Rattle.semispace.specs.Words.{Bounds, both_halves, word_at, put_at, front as Front, filled as Filled, own as Own, source as Source, home as Home, Found, zeros, set_memory, made_record, made_at, fields_of};
 
-use super::{Store, halves};
+use super::Store;
 use crate::collector::Collector;
 
 const HEAD: u32 = 2;
@@ -73,7 +73,7 @@ impl<'m> Store<'m> {
         requires found { Found (view self.now) at i }
         ensures { result ≡ Home (view self.now) at i }
     {
-        if halves::leads_new(&self.halves, at + 1) {
+        if self.halves.leads_new(at + 1) {
             return if self.owns(at, i) {
                 at
             } else {
@@ -124,7 +124,7 @@ impl<'m> Store<'m> {
         ensures { (result ≡ made_at (view self.old) kind) × (view self.new ≡ made_record (view self.old) kind number) }
     {
         let fields = self.book.fields(kind);
-        self.halves = halves::lowered(&self.halves, HEAD + fields);
+        self.halves = self.halves.lowered(HEAD + fields);
         let at = self.halves.base + self.halves.high;
         self.put(at, number);
         self.put(at + 1, kind);

@@ -6,7 +6,7 @@ ghost use Rattle.semispace.specs.Words.{Bounds, fields_of, fields_at, kind_at, r
 ghost use Rattle.semispace.specs.Sound.{opened_at, number as Number};
 ghost use Rattle.semispace.specs.Callings.{held_at, Full, Numbered};
 
-use super::{Store, halves};
+use super::Store;
 use crate::collector::Collector;
 
 impl<'m> Store<'m> {
@@ -65,7 +65,7 @@ impl<'m> Store<'m> {
         requires { Numbered (view self.now) at }
         ensures { result ≡ Number (view self.now) at }
     {
-        if halves::leads_new(&self.halves, at + 1) && !self.opened(at) {
+        if self.halves.leads_new(at + 1) && !self.opened(at) {
             return self.word(self.word(at) - 1);
         }
         self.word(at)

@@ -4,7 +4,7 @@ ghost use Rattle.std.specs.Prelude.{◌≡◌, ◌+◌, ◌-◌, ◌*◌, ◌/�
 ghost use Rattle.semispace.specs.View.{view};
 ghost use Rattle.semispace.specs.Words.{Bounds, both_halves, word_at, put_at, kind_at, place_of, reserved, next_place, Room, target as Aim, Forwardable, forwarded_state, forwarded_reference, slots_from, started, Passable, passed, Openable, opened, fields_from, Writable, written, Copyable, copied_field, reserved_field, finished, transition, Ready, stepped, resting as Resting, Watched, fitting_field as FittingField};
 
-use super::{Store, halves};
+use super::Store;
 use crate::collector::{Collector, Target, Transition};
 
 const HEAD: u32 = 2;
@@ -51,7 +51,7 @@ impl<'m> Store<'m> {
         requires reference_bound { 0 < reference → reference < both_halves (view self.now) }
         ensures { result ≡ Aim (view self.now) reference }
     {
-        if reference == 0 || halves::leads_new(&self.halves, reference) {
+        if reference == 0 || self.halves.leads_new(reference) {
             return Target::Settled;
         }
         match self.place_of(reference - 1) {
@@ -71,7 +71,7 @@ impl<'m> Store<'m> {
         self.put(place, from + 1);
         self.put(place + 1, kind);
         self.put(from + 1, kind + KINDS * (place + 1));
-        self.halves = halves::grown(&self.halves, HEAD + self.book.fields(kind));
+        self.halves = self.halves.grown(HEAD + self.book.fields(kind));
         place + 1
     }
 
@@ -105,7 +105,7 @@ impl<'m> Store<'m> {
         requires { Bounds (view self.old) }
         ensures { view self.new ≡ started (view self.old) }
     {
-        self.halves = halves::swapped(&self.halves);
+        self.halves = self.halves.swapped();
         self.collector = self.slots_from(0);
     }
 
