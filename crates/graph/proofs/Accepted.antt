@@ -1,9 +1,9 @@
 -- What a call that is not refused finds.
-use Rattle.std.proofs.Common.{◌≡◌, ℕ, suc, ◌<◌, ◌≤◌, Bool, true, false, cond, not, ◌||◌, eqb, ltb, leb, List, length, get_or, refl, zero-le, arith}
+use Rattle.std.proofs.Common.{◌≡◌, ℕ, suc, ◌<◌, ◌≤◌, Bool, true, false, cond, not, ◌||◌, eqb, ltb, leb, List, length, get_or, refl, arith}
 use Rattle.std.proofs.lemmas.Bool.{leb-false, ltb-false, eqb-false, or_parts, not-false}
 use Rattle.kinds.specs.Shapes.{Shape}
 use Rattle.graph.specs.Graph.{Graph, size, refers}
-use Rattle.graph.specs.Calls.{Call, make, read, write, follow, link, hold, drop, look, spare, slot, held, no_slot, field_refusal, make_refusal, refusal_in, paid}
+use Rattle.graph.specs.Calls.{Call, make, read, write, follow, link, hold, drop, look, spare, slot, held, no_slot, field_refusal, make_refusal, refusal_in}
 use Rattle.graph.specs.Sound.{Slot, Field, Allowed}
 
 -- the first test that holds decides

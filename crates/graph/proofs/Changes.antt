@@ -1,13 +1,12 @@
 -- A call on a list of records means the same call on its graph: garbage does not matter.
-use Rattle.std.proofs.Common.{◌≡◌, ℕ, zero, suc, ◌+◌, ◌-◌, ◌<◌, ◌≤◌, Bool, true, false, cond, not, ◌&&◌, ◌||◌, eqb, ltb, leb, ◌≢◌, ◌⊎◌, List, [], ◌∷◌, ◌++◌, map, length, get_or, set, replicate, sym, refl, ap, ◌∙◌, subst, inl, inr, ⊎_elim, suc-le-suc, zero-le, arith}
-use Rattle.kinds.specs.Shapes.{Shape, no_shape}
-use Rattle.std.proofs.lemmas.Bool.{eqb-true, eqb-false, eq-eqb, ne_eqb, both_ways, cases_eq, cases_Bool, cases_lt, cond_both, cond-true, cond-false, false≢true}
-use Rattle.std.proofs.lemmas.List.{length-set, get_or-set_same, get_or-set_other, get_or_past, get_or-replicate, length-replicate, set_past}
-use Rattle.graph.specs.Graph.{Record, Graph, size, refers, ◌∈◌, Names, Reached, by_slot, by_field, reached, select, prune}
-use Rattle.graph.specs.Calls.{Call, make, read, write, follow, link, hold, drop, look, no_record, find, put, fresh, held, slot, changed}
-use Rattle.graph.specs.Sound.{Distinct, Has, Sound, Same, Slot}
-use Rattle.graph.proofs.Reach.{in_get_or}
-use Rattle.graph.proofs.Prune.{same_reached, reached_same, prune_same, same_prune, same_sym, prune_distinct, in_prune, prune_in, prune_slots, prune_next}
+use Rattle.std.proofs.Common.{◌≡◌, ℕ, zero, suc, ◌<◌, true, eqb, ◌⊎◌, List, [], ◌∷◌, map, length, get_or, set, sym, refl, ap, ◌∙◌, subst, inl, inr, ⊎_elim, arith}
+use Rattle.kinds.specs.Shapes.{Shape}
+use Rattle.std.proofs.lemmas.Bool.{eqb-true, eqb-false, eq-eqb, ne_eqb, cases_eq, cases_lt, cond_both, cond-true, cond-false}
+use Rattle.std.proofs.lemmas.List.{length-set, get_or-set_same, get_or-set_other, get_or_past, get_or-replicate, length-replicate}
+use Rattle.graph.specs.Graph.{Record, Graph, size, refers, ◌∈◌, Names, Reached, by_slot, by_field, prune}
+use Rattle.graph.specs.Calls.{make, no_record, find, put, fresh, held, changed}
+use Rattle.graph.specs.Sound.{Distinct, Sound, Same, Slot}
+use Rattle.graph.proofs.Prune.{same_prune, prune_distinct, in_prune}
 
 -- find
 pub find_in : (rs : List Record) (r : Record) (n : ℕ) → Distinct rs → r ∈ rs → r.number ≡ n → find rs n ≡ r

@@ -1,13 +1,13 @@
 -- The laws of the calls on lists of records: what is reached after a call, that agreement and soundness are kept,
 -- and that a call on a list means the same call on its graph. Cited by every heap's proof of its calls.
-use Rattle.std.proofs.Common.{◌≡◌, ℕ, zero, suc, ◌+◌, ◌<◌, ◌≤◌, Bool, true, false, cond, not, ◌||◌, eqb, ltb, leb, ◌⊎◌, List, [], ◌∷◌, map, length, get_or, set, replicate, sym, refl, ap, ◌∙◌, subst, inl, inr, ⊎_elim, arith}
+use Rattle.std.proofs.Common.{◌≡◌, ℕ, ◌+◌, ◌<◌, Bool, true, false, ◌⊎◌, List, map, length, get_or, set, sym, refl, ap, ◌∙◌, subst, inl, inr, ⊎_elim, arith}
 use Rattle.std.proofs.lemmas.Bool.{false≢true}
 use Rattle.std.proofs.lemmas.List.{length-set, length-replicate}
 use Rattle.kinds.specs.Shapes.{Shape}
-use Rattle.graph.specs.Graph.{Record, Graph, size, refers, ◌∈◌, Names, Reached, by_slot, by_field, prune}
-use Rattle.graph.specs.Calls.{Call, Makes, make, read, write, follow, link, hold, drop, look, spare, find, put, fresh, slot, held, with_slot, with_field, changed, after, field_refusal, make_refusal, refusal_in, answer_in}
-use Rattle.graph.specs.Sound.{Has, Sound, Same, Slot, Field, Allowed}
-use Rattle.graph.proofs.Prune.{same_reached, reached_same, prune_same, same_prune, prune_distinct, in_prune, prune_in, prune_slots, prune_next}
+use Rattle.graph.specs.Graph.{Record, Graph, size, refers, ◌∈◌, Names, Reached, by_field, prune}
+use Rattle.graph.specs.Calls.{Call, Makes, make, read, write, follow, link, hold, drop, look, spare, find, put, fresh, slot, held, with_slot, with_field, changed, after, refusal_in, answer_in}
+use Rattle.graph.specs.Sound.{Sound, Same, Slot, Field, Allowed}
+use Rattle.graph.proofs.Prune.{reached_same, prune_same, same_prune, prune_distinct, in_prune, prune_in, prune_slots, prune_next}
 use Rattle.graph.proofs.Changes.{find_in, held_in, held_prune, slot_reached, in_map, map_in, map_distinct, put_number, put_kind, put_length, put_names, slots_down, set_slots, map_down, make_down, find_same}
 
 module _ (book : List Shape) where

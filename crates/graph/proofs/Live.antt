@@ -1,9 +1,9 @@
 -- Live words: what they are after a call, and over parts of a list.
-use Rattle.std.proofs.Common.{◌≡◌, ℕ, zero, suc, ◌+◌, ◌<◌, ◌≤◌, Bool, true, false, cond, not, eqb, ◌⊎◌, List, [], ◌∷◌, map, length, get_or, set, sym, refl, ap, ◌∙◌, subst, inl, inr, ⊎_elim, zero-le, arith}
+use Rattle.std.proofs.Common.{◌≡◌, ℕ, ◌+◌, ◌<◌, ◌≤◌, Bool, true, not, eqb, List, [], ◌∷◌, map, get_or, sym, refl, ap, ◌∙◌, subst, inl, inr, ⊎_elim, zero-le, arith}
 use Rattle.std.proofs.lemmas.Bool.{cond_both, cond-true, cond-false, ne_eqb, eq-eqb, not_from_false, not_from_true}
 use Rattle.kinds.specs.Shapes.{Shape}
-use Rattle.graph.specs.Graph.{Record, Graph, ◌∈◌, Reached, reached, select, prune}
-use Rattle.graph.specs.Calls.{Call, make, read, write, follow, link, hold, drop, look, spare, put, fresh, slot, held, with_slot, with_field, changed, after, total, live, paid}
+use Rattle.graph.specs.Graph.{Record, Graph, ◌∈◌, reached, select}
+use Rattle.graph.specs.Calls.{Call, make, read, write, follow, link, hold, drop, look, spare, put, fresh, slot, changed, after, total, live, paid}
 use Rattle.graph.specs.Sound.{Distinct, Sound, Allowed}
 use Rattle.graph.proofs.Reach.{reached_sound, reached_complete}
 use Rattle.graph.proofs.Order.{total_select, select_in}

@@ -1,8 +1,7 @@
 -- Lists of records: membership, order by number, what is selected, and totals.
-use Rattle.std.proofs.Common.{◌≡◌, ℕ, zero, suc, ◌+◌, ◌-◌, ◌<◌, ◌≤◌, Bool, true, false, cond, ◌&&◌, ◌||◌, eqb, ltb, leb, ◌⊎◌, List, [], ◌∷◌, ◌++◌, map, length, get_or, set, replicate, sym, refl, ap, ◌∙◌, subst, inl, inr, ⊎_elim, suc-le-suc, zero-le, arith}
-use Rattle.kinds.specs.Shapes.{Shape, no_shape}
-use Rattle.std.proofs.lemmas.Bool.{or_cases, or_left, or_right, and_parts, and_from, eqb-true, eq-eqb, false≢true, cond_both, cond-true, cond-false, leb-true, leb-false, cases_Bool}
-use Rattle.graph.specs.Graph.{Record, Graph, ◌∈◌, insert, sort, select}
+use Rattle.std.proofs.Common.{◌≡◌, ℕ, ◌+◌, ◌<◌, ◌≤◌, Bool, true, leb, ◌⊎◌, List, [], ◌∷◌, get_or, sym, refl, ap, ◌∙◌, subst, inl, inr, ⊎_elim, zero-le, arith}
+use Rattle.std.proofs.lemmas.Bool.{cond_both, cond-true, leb-true, leb-false}
+use Rattle.graph.specs.Graph.{Record, ◌∈◌, insert, sort, select}
 use Rattle.graph.specs.Calls.{total}
 use Rattle.graph.specs.Sound.{Distinct, Rising}
 

@@ -1,12 +1,12 @@
 -- Lists that agree on what is reached have one graph.
-use Rattle.std.proofs.Common.{◌≡◌, ℕ, zero, suc, ◌+◌, ◌-◌, ◌<◌, ◌≤◌, Bool, true, false, cond, ◌&&◌, ◌||◌, ◌⊎◌, List, [], ◌∷◌, ◌++◌, map, length, get_or, set, replicate, sym, refl, ap, ◌∙◌, subst, inl, inr, ⊎_elim, suc-le-suc, zero-le, arith}
+use Rattle.std.proofs.Common.{◌≡◌, ℕ, ◌<◌, Bool, true, List, [], ◌∷◌, length, get_or, sym, refl, ap, ◌∙◌, subst, inl, inr}
 use Rattle.kinds.specs.Shapes.{Shape}
-use Rattle.graph.specs.Graph.{Record, Graph, ◌∈◌, Names, Reached, by_slot, by_field, reached, insert, sort, select, prune}
+use Rattle.graph.specs.Graph.{Record, Graph, ◌∈◌, Reached, by_slot, by_field, reached, select, prune}
 use Rattle.std.proofs.lemmas.Bool.{cond-true}
 use Rattle.graph.specs.Calls.{total, live}
 use Rattle.graph.specs.Sound.{Distinct, Rising, Same}
 use Rattle.graph.proofs.Reach.{reached_sound, reached_complete}
-use Rattle.graph.proofs.Order.{rising_same, in_sort, sort_in, sort_rising, rising_distinct, in_select, select_in, select_distinct, total_sort, total_select, total_select_all}
+use Rattle.graph.proofs.Order.{rising_same, in_sort, sort_in, sort_rising, rising_distinct, in_select, select_in, select_distinct, total_sort}
 
 pub same_reached : (book : List Shape) (g h : Graph) → Same book g h → {n : ℕ} → Reached book g n → Reached book h n
 same_reached book g h s (by_slot a l e z) = by_slot a (subst (λ xs. a < length xs) s.slots l) (ap (λ xs. get_or xs a 0) (sym s.slots) ∙ e) z

@@ -1,12 +1,11 @@
 -- What a view shows, and how a change of it changes its list of records. Every heap's calls cite these.
-use Rattle.std.proofs.Common.{◌≡◌, ℕ, ◌+◌, ◌<◌, ◌≤◌, Bool, true, false, cond, eqb, ◌⊎◌, List, [], ◌∷◌, map, length, get_or, set, replicate, sym, refl, ap, ◌∙◌, subst, inl, inr, ⊎_elim, arith}
-use Rattle.std.specs.List.{range_with_len}
+use Rattle.std.proofs.Common.{◌≡◌, ℕ, ◌+◌, ◌<◌, eqb, List, [], ◌∷◌, map, length, get_or, set, sym, refl, ap, ◌∙◌, subst, inl, inr, ⊎_elim, arith}
 use Rattle.std.proofs.lemmas.Bool.{eq-eqb, ne_eqb, cases_eq, cond-true, cond-false}
 use Rattle.std.proofs.lemmas.List.{length-set, get_or-set_same, get_or-set_other, ext_get_or, get_or-replicate, length-replicate}
 use Rattle.std.proofs.lemmas.List.FromFn.{length-map-range_with_len, get_or-map-range_with_len}
 use Rattle.kinds.specs.Shapes.{Shape}
-use Rattle.graph.specs.Graph.{Record, Graph, size, refers, ◌∈◌, Names, Reached, by_slot, by_field, prune}
-use Rattle.graph.specs.Calls.{Call, make, find, put, fresh, slot, held, with_field, changed, after}
+use Rattle.graph.specs.Graph.{Record, Graph, size, ◌∈◌, Names, Reached, by_slot, by_field, prune}
+use Rattle.graph.specs.Calls.{Call, make, put, fresh, held, with_field, changed, after}
 use Rattle.graph.specs.Sound.{Distinct, Has, Sound, Same, Allowed}
 use Rattle.graph.specs.View.{View, record_at, raw, Once, Found, Placed, Wrote, Made}
 use Rattle.graph.proofs.Prune.{prune_same}

@@ -1,5 +1,5 @@
 -- The calls, and what each of them does to a graph.
-use Rattle.std.specs.Prelude.{◌≡◌, ℕ, ◌+◌, Bool, true, false, cond, not, ◌||◌, List, [], ◌∷◌, map, length, replicate, ◌==◌, nat_le, nat_lt, slice_index, slice_set}
+use Rattle.std.specs.Prelude.{ℕ, ◌+◌, Bool, true, false, cond, not, ◌||◌, List, [], ◌∷◌, map, length, replicate, ◌==◌, nat_le, nat_lt, slice_index, slice_set}
 use Rattle.kinds.specs.Shapes.{Shape}
 use Rattle.graph.specs.Graph.{Record, Graph, size, refers, select, reached, prune}
 

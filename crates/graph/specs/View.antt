@@ -1,5 +1,5 @@
 -- How a heap's words are read as a list of records: by the addresses at which records lie, and by what stands there.
-use Rattle.std.specs.Prelude.{◌≡◌, ℕ, ◌<◌, Bool, true, ◌⊎◌, List, [], ◌∷◌, map, length, ◌≢◌, slice_index}
+use Rattle.std.specs.Prelude.{◌≡◌, ℕ, ◌<◌, true, ◌⊎◌, List, [], ◌∷◌, map, length, ◌≢◌, slice_index}
 use Rattle.std.specs.List.{range_with_len}
 use Rattle.kinds.specs.Shapes.{Shape}
 use Rattle.graph.specs.Graph.{Record, Graph, ◌∈◌, size, refers}

@@ -1,10 +1,9 @@
 -- The numbers on the bills held: what a push and a removal leave, and which settle a place names.
-use Rattle.std.proofs.Common.{◌≡◌, ℕ, suc, ◌<◌, ◌≤◌, Bool, true, false, cond, ltb, List, [], ◌∷◌, ◌++◌, map, length, get_or, take, drop, Some, None, sym, refl, ap, ◌∙◌, subst}
+use Rattle.std.proofs.Common.{◌≡◌, ℕ, suc, ◌<◌, ◌≤◌, true, false, ltb, List, [], ◌∷◌, ◌++◌, map, length, get_or, take, drop, sym, ap, ◌∙◌, subst}
 use Rattle.std.specs.List.{remove}
-use Rattle.std.proofs.lemmas.Bool.{cond-true, cond-false, lt-ltb, le-ltb}
+use Rattle.std.proofs.lemmas.Bool.{lt-ltb, le-ltb}
 use Rattle.std.proofs.lemmas.List.{length-map, get_or-map, map-append, take-map, drop-map}
 use Rattle.keeper.specs.declared.keeper.Bill.{Bill}
-use Rattle.keeper.specs.Keeping.{settle}
 use Rattle.keeper.specs.Bills.{number}
 
 pub pushed : (xs ys : List Bill) (b : Bill) → ys ≡ xs ++ (b ∷ []) → map number ys ≡ map number xs ++ (b.number ∷ [])

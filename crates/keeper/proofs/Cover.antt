@@ -1,6 +1,6 @@
 -- Every call that made a step lies in a cycle.
-use Rattle.std.proofs.Common.{◌≡◌, ℕ, zero, suc, ◌<◌, Bool, true, false, ◌⊎◌, List, [], ◌∷◌, ◌++◌, sym, refl, ap, ◌∙◌, subst, inl, inr, append_assoc, arith}
-use Rattle.keeper.specs.History.{Moment, Cycle, Closed, Still, Unended, Ends, Covered, steps_in, ended_in}
+use Rattle.std.proofs.Common.{◌≡◌, ◌<◌, Bool, true, false, ◌⊎◌, List, [], ◌∷◌, ◌++◌, sym, refl, ap, ◌∙◌, inl, inr, append_assoc}
+use Rattle.keeper.specs.History.{Moment, Closed, Still, Unended, Ends, Covered, steps_in, ended_in}
 use Rattle.keeper.proofs.Steps.{zero_or}
 
 -- A list taken apart at its last cycle.

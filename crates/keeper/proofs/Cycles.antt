@@ -1,12 +1,10 @@
 -- The first two laws: how long a cycle is, and what it leaves in use.
-use Rattle.std.proofs.Common.{◌≡◌, ℕ, suc, ◌+◌, ◌-◌, ◌<◌, ◌≤◌, Bool, true, false, ◌⊎◌, List, [], ◌∷◌, ◌++◌, sym, refl, ap, ◌∙◌, subst, inl, inr, arith}
-use Rattle.graph.specs.Meaning.{Meaning, live_words}
-use Rattle.graph.specs.Cycle.{in_use}
-use Rattle.keeper.specs.Keeping.{State, Ask, Event}
-use Rattle.keeper.specs.History.{Moment, History, New, Cycle, Closed, Still, Unended, Ends, Short, Freed, final, steps_in, ended_in, steps_of, words_of, words_in}
+use Rattle.std.proofs.Common.{◌≡◌, ◌+◌, ◌<◌, ◌≤◌, List, [], ◌∷◌, ◌++◌, refl, ap, subst, inl, inr, arith}
+use Rattle.graph.specs.Meaning.{live_words}
+use Rattle.keeper.specs.Keeping.{State}
+use Rattle.keeper.specs.History.{Moment, History, New, Cycle, Closed, Still, Unended, Ends, Short, Freed, final, steps_in, steps_of, words_of}
 use Rattle.keeper.specs.History.{none, then}
-use Rattle.keeper.proofs.Steps.{not_both}
-use Rattle.keeper.proofs.Effects.{Effect, effect}
+use Rattle.keeper.proofs.Effects.{effect}
 
 pub split : (xs ys : List Moment) {s t : State} → History s (xs ++ ys) t → (u : State) × History s xs u × History u ys t
 split [] ys {s} h = (s, none, h)

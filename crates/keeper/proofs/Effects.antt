@@ -1,11 +1,10 @@
 -- What a call of the keeper does, in numbers: the summary from which the laws are proved.
-use Rattle.std.proofs.Common.{◌≡◌, ℕ, suc, ◌+◌, ◌-◌, ◌<◌, ◌≤◌, Bool, true, false, cond, ltb, leb, length, Some, None, Option, sym, refl, ap, ◌∙◌, subst, subst₂, arith}
+use Rattle.std.proofs.Common.{◌≡◌, ℕ, ◌+◌, ◌<◌, ◌≤◌, Bool, true, false, cond, ltb, leb, length, Some, None, Option, sym, refl, ap, ◌∙◌, subst₂, arith}
 use Rattle.std.proofs.lemmas.Bool.{ltb-true, leb-false}
 use Rattle.graph.specs.Calls.{Call, make, read, write, follow, link, hold, drop, look, spare, no_slot, paid}
-use Rattle.graph.specs.Meaning.{Meaning, Reply, gave, refused, refusal, Accepted, Called, live_words}
-use Rattle.graph.specs.Cycle.{in_use}
+use Rattle.graph.specs.Meaning.{Meaning, Reply, gave, refused, Accepted, Called, live_words}
 use Rattle.graph.proofs.Accepted.{accepted}
-use Rattle.keeper.specs.Keeping.{State, Ask, call, idle, settle, Said, told, idled, settled, unsettled, charge, Passed, Made, Making, Calls, Event}
+use Rattle.keeper.specs.Keeping.{State, Ask, call, idle, settle, Said, told, idled, settled, unsettled, charge, Made, Calls, Event}
 use Rattle.keeper.specs.History.{steps_in, ended_in, price, if_gave}
 use Rattle.keeper.proofs.Steps.{Went, went, not_both}
 

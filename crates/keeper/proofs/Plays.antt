@@ -1,10 +1,10 @@
 -- Orders played one after the other: one more at the end, and the history and the laws of all of them.
-use Rattle.std.proofs.Common.{◌≡◌, ℕ, ◌+◌, ◌<◌, ◌≤◌, List, [], ◌∷◌, ◌++◌, length, get_or, take, Some, None, Option, sym, refl, ap, ◌∙◌, subst, subst₂}
+use Rattle.std.proofs.Common.{◌≡◌, ℕ, ◌+◌, ◌<◌, ◌≤◌, List, [], ◌∷◌, ◌++◌, length, get_or, take, Some, None, Option, sym, refl, subst, subst₂}
 use Rattle.std.proofs.lemmas.List.{take_more, take_all}
 use Rattle.graph.specs.Meaning.{Opened}
 use Rattle.keeper.specs.declared.orders.Order.{Order}
 use Rattle.keeper.specs.declared.orders.Reply.{Reply}
-use Rattle.keeper.specs.Keeping.{State, Ask, Said, Event}
+use Rattle.keeper.specs.Keeping.{State, Ask, Said}
 use Rattle.keeper.specs.History.{Moment, History, then, New, Grounds, Lawful}
 use Rattle.keeper.specs.History as H
 use Rattle.keeper.specs.Play.{asked, said_by, held_after, Taken, Played, none, made, passed, Ran}

@@ -1,12 +1,12 @@
 -- The third law: with enough capacity no make is refused for want of space. Over fixed numbers: what is in use at a cycle's end is
 -- at most L and what was made in it; what is made between two ends is at most Q = (F + L) / r rounded up, and one record.
-use Rattle.std.proofs.Common.{◌≡◌, ℕ, zero, suc, ◌+◌, ◌-◌, ◌*◌, ◌/◌, ◌<◌, ◌≤◌, min, Bool, true, false, cond, ◌⊎◌, List, [], ◌∷◌, length, get_or, Some, None, Option, sym, refl, ap, ◌∙◌, subst, inl, inr, mul_comm, mul-zero, le-div_iff_mul-le, arith}
+use Rattle.std.proofs.Common.{◌≡◌, ℕ, ◌+◌, ◌-◌, ◌*◌, ◌<◌, ◌≤◌, min, Bool, true, false, List, [], ◌∷◌, length, get_or, Some, None, Option, sym, refl, ap, ◌∙◌, subst, inl, inr, mul_comm, mul-zero, le-div_iff_mul-le, arith}
 use Rattle.kinds.specs.Shapes.{Shape}
 use Rattle.graph.specs.Calls.{Call, make, read, write, follow, link, hold, drop, look, spare, paid, word, done, known}
-use Rattle.graph.specs.Meaning.{Meaning, Reply, gave, refused, Called, live_words}
-use Rattle.keeper.specs.Keeping.{State, Ask, call, idle, settle, Said, told, idled, settled, unsettled, charge, cap, owed, Passed, Made, Making, Counted, Calls, Event, words_after, bill_after}
+use Rattle.graph.specs.Meaning.{Meaning, Reply, gave, refused, live_words}
+use Rattle.keeper.specs.Keeping.{State, Ask, call, idle, settle, Said, told, idled, settled, unsettled, charge, cap, Passed, Made, Making, Counted, Calls, Event}
 use Rattle.keeper.specs.History.{Moment, History, none, then, New, Grounds, Sized, Fits, Roomy, Each, quotient, steps_in, ended_in, price, if_gave}
-use Rattle.keeper.proofs.Steps.{whole, not_both, zero_or}
+use Rattle.keeper.proofs.Steps.{whole, zero_or}
 use Rattle.keeper.proofs.Effects.{Effect, effect, Told, told_by}
 
 -- What may be made and not yet settled.

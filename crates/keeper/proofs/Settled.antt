@@ -1,5 +1,5 @@
 -- A settle that is accepted: the answer of the pacing is the count, and whether a cycle ended is read from the steps and from due.
-use Rattle.std.proofs.Common.{◌≡◌, ℕ, Bool, Some, None, sym, refl, ap, ◌∙◌, subst}
+use Rattle.std.proofs.Common.{◌≡◌, ℕ, Bool, Some, None, subst}
 use Rattle.graph.specs.Calls.{spare, word}
 use Rattle.graph.specs.Meaning.{Meaning, gave, Called}
 use Rattle.graph.specs.Cycle.{Idled}

@@ -1,8 +1,8 @@
 -- What an idle of many steps does, from what each step does.
-use Rattle.std.proofs.Common.{◌≡◌, ℕ, zero, suc, ◌+◌, ◌-◌, ◌<◌, ◌≤◌, Bool, true, false, ◌&&◌, eqb, ltb, ◌⊎◌, sym, refl, ap, ◌∙◌, subst, inl, inr, arith}
+use Rattle.std.proofs.Common.{◌≡◌, ℕ, zero, suc, ◌+◌, ◌<◌, ◌≤◌, Bool, true, false, ◌&&◌, eqb, ltb, ◌⊎◌, sym, refl, ap, ◌∙◌, inl, inr, arith}
 use Rattle.std.proofs.lemmas.Bool.{and_from, and_right, lt-ltb, eq-eqb, ne_eqb}
 use Rattle.graph.specs.Meaning.{Meaning, live_words}
-use Rattle.graph.specs.Cycle.{Step, Idled}
+use Rattle.graph.specs.Cycle.{Idled}
 use Rattle.graph.specs.Cycle.{stop, last, more}
 
 pub zero_or : (n : ℕ) → (n ≡ 0) ⊎ (0 < n)

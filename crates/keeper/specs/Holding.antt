@@ -8,7 +8,7 @@ use Rattle.keeper.specs.declared.keeper.Keeper.{Keeper}
 use Rattle.keeper.specs.declared.keeper.Bill.{Bill}
 use Rattle.keeper.specs.declared.keeper.NotSettled.{NotSettled}
 use Rattle.keeper.specs.declared.keeper.NotSettled.TheVariants.{WrongBill}
-use Rattle.keeper.specs.Keeping.{State, Ask, call, settle, Said, told, settled, unsettled, owed, Event}
+use Rattle.keeper.specs.Keeping.{State, call, settle, Said, told, settled, unsettled, owed, Event}
 
 abbrev pub state : {H P : Type 0} → (H → Meaning) → (P → ℕ) → (P → ℕ → ℕ → ℕ → ℕ) → Keeper H P → State
 state meaning rate asks k = record { heap = meaning k.heap; rate = rate k.pacing; asks = asks k.pacing; steps = k.steps; words = k.words; bill = k.bill }

@@ -1,5 +1,5 @@
 -- What each call of a keeper does to its state.
-use Rattle.std.specs.Prelude.{◌≡◌, ℕ, ◌+◌, min, Bool, true, false, cond, Some, None, Option, slice_index}
+use Rattle.std.specs.Prelude.{◌≡◌, ℕ, ◌+◌, min, Bool, cond, Some, None, Option, slice_index}
 use Rattle.graph.specs.Calls.{Call, make, read, write, follow, link, hold, drop, look, spare, done, word, known}
 use Rattle.graph.specs.Meaning.{Meaning, Reply, gave, refused, Called}
 use Rattle.graph.specs.Cycle.{Idled}

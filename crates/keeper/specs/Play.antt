@@ -1,9 +1,9 @@
 -- Lists of calls that are played on a keeper, and the history that they make.
-use Rattle.std.specs.Prelude.{◌≡◌, ℕ, Bool, cond, List, [], ◌∷◌, ◌++◌, map, length, Some, None, Option, nat_lt, slice_index}
+use Rattle.std.specs.Prelude.{◌≡◌, ℕ, cond, List, [], ◌∷◌, ◌++◌, length, Some, None, Option, nat_lt, slice_index}
 use Rattle.std.specs.List.{remove}
 use Rattle.kinds.specs.Refusals.{code}
 use Rattle.graph.specs.Calls.{make, read, write, follow, link, hold, drop, look, spare, done, word, known}
-use Rattle.graph.specs.Meaning.{Meaning, Opened, gave, refused}
+use Rattle.graph.specs.Meaning.{Opened, gave, refused}
 use Rattle.keeper.specs.declared.orders.Order.{Order}
 use Rattle.keeper.specs.declared.orders.Order.TheVariants.{Make, Read, Write, Follow, Link, Hold, Drop, Look, Spare, Idle, Settle}
 use Rattle.keeper.specs.declared.orders.Reply.{Reply}

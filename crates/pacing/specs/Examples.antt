@@ -1,5 +1,5 @@
 -- Worked examples: at rate 3, for four words made.
-use Rattle.std.specs.Prelude.{◌≡◌, ℕ}
+use Rattle.std.specs.Prelude.{◌≡◌}
 use Rattle.pacing.specs.Paces.{missing}
 
 pub record Examples : Type 0 where

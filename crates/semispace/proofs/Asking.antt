@@ -1,17 +1,13 @@
 -- What the code of calls asks of the words, from the invariant.
-use Rattle.std.proofs.Common.{◌≡◌, ℕ, ◌+◌, ◌-◌, ◌<◌, ◌≤◌, Bool, true, false, cond, ◌&&◌, ◌||◌, eqb, ltb, leb, ◌≢◌, ◌⊎◌, List, ◌++◌, length, get_or, sym, refl, ap, ◌∙◌, subst, ap₂, inl, inr, arith}
+use Rattle.std.proofs.Common.{◌≡◌, ℕ, ◌+◌, ◌-◌, ◌<◌, Bool, true, false, ◌||◌, eqb, ltb, leb, List, get_or, sym, ap, ◌∙◌, subst, ap₂, inl, inr, arith}
 use Rattle.std.proofs.lemmas.Bool.{or_left, or_right, eq-eqb, lt-ltb, le-leb, true≢false, false≢true}
 use Rattle.kinds.specs.Shapes.{Shape}
 use Rattle.graph.specs.Graph.{size}
-use Rattle.semispace.specs.declared.collector.Collector.{Collector}
-use Rattle.semispace.specs.declared.collector.Collector.TheVariants.{Rest, Slots, Scan, Field}
-use Rattle.semispace.specs.declared.collector.Target.{Target}
-use Rattle.semispace.specs.declared.collector.Target.TheVariants.{Settled, Placed, Unplaced}
+use Rattle.semispace.specs.declared.collector.Target.TheVariants.{Settled}
 use Rattle.semispace.specs.Layout.{mem, mades}
-use Rattle.semispace.specs.Words.{State, Bounds, both_halves, leads_new, own, front, resting, kind_at, place_of, fields_at, word_at, home, target, Found, Forwardable, forwarded_state, forwarded_reference, refers}
-use Rattle.semispace.specs.Sound.{the_olds, the_news, the_places, size_of, good, opened_at, Twin, value, Sound}
-use Rattle.semispace.specs.Dues.{objects}
-use Rattle.semispace.specs.Graphs.{Known, Whole}
+use Rattle.semispace.specs.Words.{State, Bounds, both_halves, leads_new, resting, kind_at, place_of, fields_at, word_at, home, target, Found, Forwardable, forwarded_state, forwarded_reference, refers}
+use Rattle.semispace.specs.Sound.{the_olds, the_news, the_places, size_of, opened_at, Twin, value, Sound}
+use Rattle.semispace.specs.Graphs.{Known}
 use Rattle.semispace.specs.Callings.{held_at, Full, Held, Numbered, Led, Linkable}
 use Rattle.semispace.specs.Stands.{Meets}
 use Rattle.semispace.proofs.Spreads.{by_bool, mem_append, mem_left, mem_right, size_two}
@@ -19,7 +15,7 @@ use Rattle.semispace.proofs.Reserving.{mades_inside}
 use Rattle.semispace.proofs.SlotSound.{good_cases}
 use Rattle.semispace.proofs.ReserveAgree.{new_leads, old_leads_not}
 use Rattle.semispace.proofs.Putting.{all, news_inside, all_inside}
-use Rattle.semispace.proofs.Homes.{size_by_kind, place_unless_own}
+use Rattle.semispace.proofs.Homes.{size_by_kind}
 use Rattle.semispace.proofs.Readying.{forwardable}
 use Rattle.semispace.proofs.Knowing.{objects_rest, objects_cycle}
 use Rattle.semispace.proofs.Sourcing.{source_of}

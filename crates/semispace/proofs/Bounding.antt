@@ -17,7 +17,7 @@ use Rattle.semispace.specs.Words.{State, finished, fields_at, resting, refers, k
 use Rattle.semispace.specs.Sound.{the_olds, the_news, the_places, size_of, Sound, number, name, shown}
 use Rattle.semispace.specs.Dues.{objects, names_below, edge, root, lives, kept, opened_record, pending, due}
 use Rattle.semispace.specs.Graphs.{record_of, raw_of, graph_of, Known}
-use Rattle.semispace.specs.Reach.{some, reached, sum_where}
+use Rattle.semispace.specs.Reach.{some, sum_where}
 use Rattle.semispace.proofs.Spreads.{by_bool, mem_head, mem_left, mem_right, total_append}
 use Rattle.semispace.proofs.Ends.{done_sound}
 use Rattle.semispace.proofs.Stepping.{size_is}

@@ -1,10 +1,10 @@
 -- Every call of a copying heap that is not refused: the state keeps the invariant, and the answer and the meaning after it are the graph's.
-use Rattle.std.proofs.Common.{◌≡◌, ℕ, ◌+◌, ◌-◌, ◌<◌, ◌≤◌, Bool, true, false, cond, eqb, List, length, get_or, sym, refl, ap, ◌∙◌, subst, ⊎_elim, arith}
+use Rattle.std.proofs.Common.{◌≡◌, ℕ, ◌+◌, ◌<◌, ◌≤◌, Bool, true, false, eqb, List, length, get_or, sym, refl, ap, ◌∙◌, subst, ⊎_elim, arith}
 use Rattle.std.proofs.lemmas.Bool.{cond-true, cond-false, cases_eq, eq-eqb, ne_eqb}
 use Rattle.std.proofs.lemmas.List.{get_or-map}
 use Rattle.kinds.specs.Shapes.{Shape, no_shape}
 use Rattle.graph.specs.Graph.{Record, size, prune}
-use Rattle.graph.specs.Calls.{Call, make, read, write, follow, link, hold, drop, look, spare, Answer, done, word, known, slot, held, after, paid}
+use Rattle.graph.specs.Calls.{Call, make, read, write, follow, link, hold, drop, look, spare, word, known, slot, held, after, paid}
 use Rattle.graph.specs.Sound.{Field, Allowed}
 use Rattle.graph.specs.Meaning.{Meaning, refusal, answer, gave, Called, headed_charges}
 use Rattle.graph.specs.Meaning as GM
@@ -13,8 +13,7 @@ use Rattle.graph.proofs.Changes.{held_prune}
 use Rattle.graph.proofs.Laws.{refusal_prune}
 use Rattle.graph.proofs.Accepted.{accepted, make_room}
 use Rattle.semispace.specs.Words.{State, kind_at, refers, fields_of}
-use Rattle.semispace.specs.Sound.{Sound, name, number, value}
-use Rattle.semispace.specs.Dues.{due, kept}
+use Rattle.semispace.specs.Sound.{Sound, name, number}
 use Rattle.semispace.specs.Graphs.{record_of, raw_of, graph_of, Known, Whole}
 use Rattle.semispace.specs.Collected.{meaning_of, Accepted}
 use Rattle.semispace.specs.Callings.{held_at, words_after, words_answer}

@@ -1,7 +1,6 @@
 -- Every step keeps the meaning and comes nearer to the end; so does an idle, step by step.
-use Rattle.std.proofs.Common.{◌≡◌, ℕ, zero, suc, ◌+◌, ◌-◌, ◌<◌, ◌≤◌, true, false, ltb, ◌≢◌, [], sym, refl, ap, subst, arith}
+use Rattle.std.proofs.Common.{◌≡◌, ℕ, zero, suc, ◌+◌, ◌-◌, ◌<◌, ◌≤◌, true, false, ltb, [], sym, refl, ap, subst, arith}
 use Rattle.std.proofs.lemmas.Bool.{false≢true}
-use Rattle.graph.specs.Graph.{size}
 use Rattle.graph.specs.Calls as GC
 use Rattle.graph.specs.Meaning.{headed_charges}
 use Rattle.graph.specs.Cycle.{Step, Idled, stop, last, more}
@@ -12,9 +11,9 @@ use Rattle.semispace.specs.Words.{State, set_halves, passed, opened, made, fitti
 use Rattle.semispace.specs.Sound.{the_olds, the_news, Sound}
 use Rattle.semispace.specs.declared.collector.Transition.{Transition}
 use Rattle.semispace.specs.declared.collector.Transition.TheVariants.{Open, Done}
-use Rattle.semispace.specs.Dues.{kept, slots_left, fields_left, due}
+use Rattle.semispace.specs.Dues.{slots_left, fields_left, due}
 use Rattle.semispace.specs.Graphs.{graph_of, Known}
-use Rattle.semispace.specs.Collected.{live, meaning_of}
+use Rattle.semispace.specs.Collected.{meaning_of}
 use Rattle.semispace.proofs.Spreads.{by_bool, total_append, placed_within}
 use Rattle.semispace.proofs.Ends.{done_sound, news_start}
 use Rattle.semispace.proofs.Like.{Like}

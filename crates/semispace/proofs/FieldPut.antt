@@ -12,8 +12,7 @@ use Rattle.semispace.specs.Graphs.{Known}
 use Rattle.semispace.proofs.Spreads.{by_bool, placed_same, mem_append, mem_left, mem_right, size_two}
 use Rattle.semispace.proofs.ReserveSound.{good_more}
 use Rattle.semispace.proofs.ReserveAgree.{new_leads}
-use Rattle.semispace.proofs.Putting.{all, apart, put_same, put_other, put_tag, put_size, places_put, olds_put, news_put, laid_put, mades_put}
-use Rattle.semispace.proofs.SlotSound.{old}
+use Rattle.semispace.proofs.Putting.{all, put_same, put_other, put_tag, put_size, places_put, olds_put, news_put, laid_put, mades_put}
 use Rattle.semispace.proofs.Like.{the_mades, objs_all}
 use Rattle.semispace.proofs.FieldLike.{unopened_place}
 use Rattle.semispace.proofs.Knowing.{objects_cycle, objects_rest}

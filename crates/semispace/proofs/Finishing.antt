@@ -1,7 +1,7 @@
 -- After Done only what was reached is left, and the graph is the same.
 use Rattle.std.proofs.Common.{◌≡◌, ℕ, ◌+◌, ◌-◌, ◌<◌, true, false, cond, eqb, ltb, map, get_or, sym, refl, ap, ◌∙◌, subst, inl, inr, arith}
 use Rattle.std.proofs.lemmas.Bool.{or_cases, ne_eqb}
-use Rattle.graph.specs.Graph.{size, Record, ◌∈◌, Names, Reached, by_slot, by_field}
+use Rattle.graph.specs.Graph.{Record, ◌∈◌, Names, Reached, by_slot, by_field}
 use Rattle.graph.specs.Sound.{Same}
 use Rattle.graph.proofs.Changes.{in_map, map_in}
 use Rattle.graph.proofs.Prune.{prune_same}

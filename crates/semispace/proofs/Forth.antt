@@ -2,7 +2,6 @@
 use Rattle.std.proofs.Common.{◌≡◌, ℕ, zero, suc, ◌+◌, ◌-◌, ◌<◌, ◌≤◌, true, false, not, ◌&&◌, ◌||◌, eqb, ◌⊎◌, List, [], ◌∷◌, map, get_or, take, set as lib_set, sym, refl, ap, ◌∙◌, subst, ap₂, inl, inr, arith}
 use Rattle.std.proofs.lemmas.List.{get_or-set_same, get_or-set_other, length-set}
 use Rattle.std.proofs.lemmas.Bool.{or_cases, or_left, or_right, and_from, and_parts, eqb-true, eq-eqb, cases_eq}
-use Rattle.graph.specs.Graph.{size}
 use Rattle.semispace.specs.declared.collector.Collector.{Collector}
 use Rattle.semispace.specs.declared.collector.Collector.TheVariants.{Rest, Slots, Scan, Field}
 use Rattle.semispace.specs.Layout.{mem}
@@ -16,8 +15,8 @@ use Rattle.semispace.specs.Reach.{some, reached, sum_where}
 use Rattle.semispace.proofs.Spreads.{by_bool, mem_left}
 use Rattle.semispace.proofs.ReserveSound.{good_more}
 use Rattle.semispace.proofs.ReserveAgree.{new_leads}
-use Rattle.semispace.proofs.Putting.{all, apart}
-use Rattle.semispace.proofs.SlotSound.{forward_sound, old, good_cases}
+use Rattle.semispace.proofs.Putting.{all}
+use Rattle.semispace.proofs.SlotSound.{forward_sound, good_cases}
 use Rattle.semispace.proofs.Like.{the_mades, Like}
 use Rattle.semispace.proofs.Likes.{like_size, name_of, forward_like}
 use Rattle.semispace.proofs.Knowing.{objects_cycle, known_like}

@@ -1,7 +1,6 @@
 -- Numbers, kinds and sources stay known from step to step.
-use Rattle.std.proofs.Common.{◌≡◌, ℕ, ◌+◌, ◌-◌, ◌<◌, true, false, ◌&&◌, ◌||◌, T, eqb, ltb, leb, ◌≢◌, ◌⊎◌, [], sym, refl, ◌∙◌, subst, inl, inr, arith}
+use Rattle.std.proofs.Common.{◌≡◌, ℕ, ◌+◌, ◌-◌, ◌<◌, true, false, ◌&&◌, ◌||◌, eqb, ltb, leb, ◌⊎◌, [], sym, refl, ◌∙◌, subst, inl, inr, arith}
 use Rattle.std.proofs.lemmas.Bool.{or_left, or_right, le-leb, lt-ltb, ltb-false, true≢false, false≢true}
-use Rattle.graph.specs.Graph.{size}
 use Rattle.semispace.specs.declared.collector.Collector.{Collector}
 use Rattle.semispace.specs.declared.collector.Collector.TheVariants.{Rest, Slots, Scan, Field}
 use Rattle.semispace.specs.Layout.{mem}
@@ -14,8 +13,6 @@ use Rattle.semispace.specs.Graphs.{Known}
 use Rattle.semispace.proofs.Spreads.{by_bool, mem_append, mem_left, mem_right, size_two}
 use Rattle.semispace.proofs.Reserving.{places_inside, mades_inside}
 use Rattle.semispace.proofs.ReserveAgree.{new_leads, old_leads_not}
-use Rattle.semispace.proofs.Putting.{apart}
-use Rattle.semispace.proofs.SlotSound.{old}
 use Rattle.semispace.proofs.Like.{the_mades, objs, Like, objs_all}
 use Rattle.semispace.proofs.Likes.{like_objs}
 use Rattle.semispace.proofs.FieldLike.{Apart, opened_made}

@@ -1,14 +1,13 @@
 -- A state in which less is named keeps less, and no more is due.
-use Rattle.std.proofs.Common.{◌≡◌, ℕ, zero, suc, ◌+◌, ◌-◌, ◌<◌, ◌≤◌, Bool, true, false, not, ◌&&◌, ◌||◌, eqb, ◌≢◌, ◌⊎◌, List, [], ◌∷◌, map, length, get_or, take, sym, refl, ap, ◌∙◌, subst, ap₂, inl, inr, arith}
+use Rattle.std.proofs.Common.{◌≡◌, ℕ, zero, suc, ◌+◌, ◌-◌, ◌<◌, ◌≤◌, Bool, true, false, not, ◌&&◌, ◌||◌, eqb, ◌⊎◌, List, [], ◌∷◌, map, length, get_or, take, sym, refl, ap, ◌∙◌, subst, ap₂, inl, inr, arith}
 use Rattle.std.proofs.lemmas.Bool.{or_cases, or_left, or_right, and_right, and_from, and_parts, eqb-true, eq-eqb, false≢true}
 use Rattle.kinds.specs.Shapes.{Shape}
-use Rattle.semispace.specs.Layout.{mem, news}
+use Rattle.semispace.specs.Layout.{mem}
 use Rattle.semispace.specs.Words.{State, resting, refers}
-use Rattle.semispace.specs.Sound.{the_olds, the_news, size_of, opened_at, Sound, number, name, shown}
+use Rattle.semispace.specs.Sound.{the_olds, the_news, size_of, opened_at, Sound, number, name}
 use Rattle.semispace.specs.Dues.{objects, names_below, edge, root, lives, kept, opened_record, pending}
 use Rattle.semispace.specs.Reach.{some, reached, sum_where}
 use Rattle.semispace.proofs.Spreads.{by_bool, mem_cases, mem_head, mem_left, size_two}
-use Rattle.semispace.proofs.Putting.{apart}
 use Rattle.semispace.proofs.Like.{objs, Like, objs_all}
 use Rattle.semispace.proofs.Likes.{like_objs, like_size}
 use Rattle.semispace.proofs.Knowing.{objects_cycle}

@@ -3,7 +3,7 @@ use Rattle.std.proofs.Common.{◌≡◌, ℕ, ◌+◌, ◌-◌, ◌/◌, ◌%◌
 use Rattle.std.proofs.lemmas.Bool.{eqb-false, or_cases, or_left, le-leb}
 use Rattle.graph.specs.Graph.{size}
 use Rattle.semispace.specs.declared.collector.Collector.{Collector}
-use Rattle.semispace.specs.Layout.{mem, mades, olds, news}
+use Rattle.semispace.specs.Layout.{mem, mades}
 use Rattle.semispace.specs.Words.{home, State, set_memory, set_slots, set_collector, own, resting, refers, kind_at, place_of, word_at}
 use Rattle.semispace.specs.Sound.{the_olds, the_news, the_places, size_of, good, Sound, number, value, name, shown}
 use Rattle.semispace.specs.Graphs.{Sourced}
@@ -12,7 +12,6 @@ use Rattle.semispace.proofs.Reserving.{mades_inside, mades_after}
 use Rattle.semispace.proofs.ReserveSound.{noted_state, good_more, room_for, olds_after, news_kept, head_news, head_olds, tag_olds, place_o, places_cases}
 use Rattle.semispace.proofs.ReserveAgree.{new_leads, old_leads_not}
 use Rattle.semispace.proofs.Putting.{all}
-use Rattle.semispace.proofs.SlotSound.{old}
 use Rattle.semispace.proofs.Homes.{value_good, size_by_kind, number_kept, kind_kept, name_kept, shown_kept}
 use Rattle.semispace.proofs.Stepping.{size_is}
 

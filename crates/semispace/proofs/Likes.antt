@@ -1,13 +1,13 @@
 -- Looking alike is kept along a sequence of changes.
-use Rattle.std.proofs.Common.{◌≡◌, ℕ, ◌+◌, ◌-◌, ◌<◌, true, false, ◌||◌, T, eqb, ◌≢◌, List, ◌++◌, get_or, set, sym, refl, ap, ◌∙◌, subst, ap₂, inl, inr, arith}
+use Rattle.std.proofs.Common.{◌≡◌, ℕ, ◌+◌, ◌-◌, ◌<◌, true, false, ◌||◌, eqb, List, ◌++◌, get_or, set, sym, refl, ap, ◌∙◌, subst, ap₂, inl, inr, arith}
 use Rattle.std.proofs.lemmas.List.{get_or-set_same, get_or-set_other}
 use Rattle.std.proofs.lemmas.Bool.{ne_eqb, cases_eq, false≢true}
 use Rattle.kinds.specs.Shapes.{Shape}
 use Rattle.graph.specs.Graph.{size}
 use Rattle.semispace.specs.declared.collector.Collector.{Collector}
-use Rattle.semispace.specs.Layout.{mem, mades, olds, news}
+use Rattle.semispace.specs.Layout.{mem}
 use Rattle.semispace.specs.Words.{leads_new, State, target, set_slots, forwarded_state, forwarded_reference, state_at, reference_at, set_collector, own, resting, place_of, word_at, next_place}
-use Rattle.semispace.specs.Sound.{the_olds, the_news, size_of, good, opened_at, Sound, number, name, shown}
+use Rattle.semispace.specs.Sound.{the_olds, the_news, size_of, good, opened_at, Sound, number, name}
 use Rattle.semispace.specs.declared.collector.Target.{Target}
 use Rattle.semispace.specs.declared.collector.Target.TheVariants.{Settled, Placed, Unplaced}
 use Rattle.semispace.proofs.Spreads.{by_bool, mem_append, mem_left, mem_right}

@@ -1,19 +1,19 @@
 -- A make: its graph, its spare, due and kept after it are the call's.
-use Rattle.std.proofs.Common.{◌≡◌, ℕ, ◌+◌, ◌-◌, ◌%◌, ◌<◌, ◌≤◌, Bool, true, false, cond, ◌⊎◌, List, [], ◌∷◌, map, length, get_or, take, set, replicate, sym, refl, ap, ◌∙◌, subst, inl, inr, arith}
+use Rattle.std.proofs.Common.{◌≡◌, ℕ, ◌+◌, ◌<◌, ◌≤◌, true, ◌⊎◌, map, length, get_or, set, replicate, sym, refl, ap, ◌∙◌, subst, inl, inr, arith}
 use Rattle.std.proofs.lemmas.List.{get_or-map, ext_get_or, get_or-replicate, length-replicate}
 use Rattle.std.proofs.lemmas.List.FromFn.{length-map-range_with_len, get_or-map-range_with_len}
 use Rattle.std.specs.List.{range_with_len}
 use Rattle.kinds.specs.Shapes.{Shape, no_shape}
-use Rattle.graph.specs.Graph.{Record, Graph, ◌∈◌, size, prune}
+use Rattle.graph.specs.Graph.{Record, Graph, ◌∈◌, size}
 use Rattle.graph.specs.Calls as GC
 use Rattle.graph.specs.Sound.{Same}
 use Rattle.graph.specs.Meaning.{headed_charges}
 use Rattle.graph.proofs.Changes.{in_map, map_in}
 use Rattle.graph.proofs.Views.{same_after}
 use Rattle.semispace.specs.Layout.{mem}
-use Rattle.semispace.specs.Words.{State, resting, kind_at, word_at, made_at, fields_of, fields_at}
-use Rattle.semispace.specs.Sound.{the_news, size_of, good, Sound, number, name, shown}
-use Rattle.semispace.specs.Dues.{objects, lives, kept, due}
+use Rattle.semispace.specs.Words.{State, resting, kind_at, made_at, fields_of, fields_at}
+use Rattle.semispace.specs.Sound.{the_news, good, Sound, number, name, shown}
+use Rattle.semispace.specs.Dues.{objects, lives, due}
 use Rattle.semispace.specs.Graphs.{record_of, raw_of, graph_of, Known, Whole}
 use Rattle.semispace.specs.Collected.{meaning_of, Accepted}
 use Rattle.semispace.specs.Callings.{grown_by, made_in}

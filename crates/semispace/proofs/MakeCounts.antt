@@ -5,25 +5,23 @@ use Rattle.semispace.specs.declared.collector.Collector.{Collector}
 use Rattle.semispace.specs.declared.collector.Collector.TheVariants.{Rest, Slots, Scan, Field}
 use Rattle.semispace.specs.Layout.{mem}
 use Rattle.semispace.specs.Words.{State, resting, refers, kind_at, word_at, made_at, fields_of, home, own}
-use Rattle.semispace.specs.Sound.{the_olds, the_news, the_places, size_of, opened_at, Sound, At, number, value, name, shown}
-use Rattle.semispace.specs.Reach.{reached, sum_where, some}
+use Rattle.semispace.specs.Sound.{the_olds, the_news, the_places, size_of, Sound, At, number, value, name, shown}
+use Rattle.semispace.specs.Reach.{sum_where, some}
 use Rattle.semispace.specs.Dues.{objects, edge, root, lives, kept, opened_record, slots_left, fields_left, pending, due}
 use Rattle.semispace.specs.Graphs.{Known}
 use Rattle.semispace.specs.Callings.{grown_by}
 use Rattle.semispace.proofs.Spreads.{by_bool, mem_head, mem_left, mem_right, mem_append}
-use Rattle.semispace.proofs.Reserving.{mades_inside}
 use Rattle.semispace.proofs.ReserveAgree.{new_leads}
 use Rattle.semispace.proofs.Reaching.{least}
 use Rattle.semispace.proofs.Like.{the_mades}
 use Rattle.semispace.proofs.Knowing.{objects_cycle, objects_rest}
-use Rattle.semispace.proofs.Whole.{object_number, slot_reference, Reference}
-use Rattle.semispace.proofs.Putting.{all}
-use Rattle.semispace.proofs.Less.{Less, sum_le, root_cases, root_names, root_new, lives_root, lives_edge, opened_from, opened_is}
+use Rattle.semispace.proofs.Whole.{object_number, slot_reference}
+use Rattle.semispace.proofs.Less.{sum_le, root_cases, root_names, root_new, lives_root, lives_edge, opened_from, opened_is}
 use Rattle.semispace.proofs.Progress.{edge_from}
 use Rattle.semispace.proofs.Bounding.{names_is}
 use Rattle.semispace.proofs.Gaining.{due_is}
 use Rattle.semispace.proofs.Collecting.{due_rest}
-use Rattle.semispace.proofs.Making.{made_number, made_tag, made_field, size_here}
+use Rattle.semispace.proofs.Making.{made_number, made_field, size_here}
 use Rattle.semispace.proofs.MakeSound.{make_sound, make_known, news_cases_m, news_kept_m, made_there, opened_m, objects_m, object_all, head_m, size_m, olds_m, mades_m, places_m}
 use Rattle.semispace.proofs.MakeGraph.{name2, number2, kind2, shown2}
 

@@ -2,7 +2,6 @@
 use Rattle.std.proofs.Common.{◌≡◌, ℕ, ◌+◌, ◌-◌, ◌/◌, ◌%◌, ◌<◌, ◌≤◌, true, false, ◌&&◌, ◌||◌, eqb, ltb, leb, ◌⊎◌, ◌∷◌, ◌++◌, length, get_or, set, sym, refl, ap, ◌∙◌, subst, ap₂, inl, inr, add_assoc, arith}
 use Rattle.std.proofs.lemmas.List.{length-set}
 use Rattle.std.proofs.lemmas.Bool.{or_right, lt-leb, le-leb}
-use Rattle.graph.specs.Graph.{size}
 use Rattle.semispace.specs.declared.collector.Collector.{Collector}
 use Rattle.semispace.specs.declared.collector.Collector.TheVariants.{Rest, Slots, Scan, Field}
 use Rattle.semispace.specs.Layout.{mem}
@@ -14,8 +13,8 @@ use Rattle.semispace.specs.Callings.{grown_by, made_in}
 use Rattle.semispace.proofs.Spreads.{by_bool, placed_same, mem_cases, mem_head, mem_append, mem_left, mem_right, size_two}
 use Rattle.semispace.proofs.Reserving.{places_inside, mades_inside}
 use Rattle.semispace.proofs.ReserveSound.{good_more}
-use Rattle.semispace.proofs.Putting.{all, apart}
-use Rattle.semispace.proofs.SlotSound.{old, good_none, good_from}
+use Rattle.semispace.proofs.Putting.{all}
+use Rattle.semispace.proofs.SlotSound.{good_none, good_from}
 use Rattle.semispace.proofs.Like.{the_mades, objs_all}
 use Rattle.semispace.proofs.Knowing.{objects_cycle, objects_rest}
 use Rattle.semispace.proofs.Forth.{set_sound, set_known}

@@ -1,6 +1,5 @@
 -- The number of a record, by where it lies.
-use Rattle.std.proofs.Common.{◌≡◌, ℕ, ◌+◌, ◌-◌, true, false, cond, not, ◌&&◌}
-use Rattle.std.proofs.lemmas.Bool.{and_right, cond-false}
+use Rattle.std.proofs.Common.{◌≡◌, ℕ, ◌+◌, ◌-◌, true, false}
 use Rattle.semispace.specs.Words.{State, leads_new, word_at}
 use Rattle.semispace.specs.Sound.{opened_at, number}
 

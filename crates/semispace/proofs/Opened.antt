@@ -1,9 +1,9 @@
 -- Openings, good and bad: the state is whole, and what it means.
-use Rattle.std.proofs.Common.{◌≡◌, ℕ, ◌+◌, ◌/◌, ◌<◌, ◌≤◌, Bool, true, false, cond, ◌||◌, eqb, ltb, List, [], length, replicate, sym, refl, ap, subst, zero-le, arith}
+use Rattle.std.proofs.Common.{◌≡◌, ℕ, ◌+◌, ◌/◌, ◌<◌, ◌≤◌, Bool, true, false, cond, ◌||◌, eqb, ltb, List, length, replicate, sym, refl, ap, subst, zero-le, arith}
 use Rattle.std.proofs.lemmas.Bool.{or_parts, ltb-false, eqb-false, ne_eqb, cond-false}
 use Rattle.std.proofs.lemmas.List.{length-replicate}
 use Rattle.kinds.specs.Shapes.{Shape}
-use Rattle.graph.specs.Meaning.{Meaning, Opened, headed_charges}
+use Rattle.graph.specs.Meaning.{Opened, headed_charges}
 use Rattle.semispace.specs.Words.{State}
 use Rattle.semispace.specs.Graphs.{Whole}
 use Rattle.semispace.specs.Collected.{meaning_of}

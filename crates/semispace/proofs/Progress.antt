@@ -4,20 +4,20 @@ use Rattle.std.proofs.lemmas.Bool.{or_from, or_left, or_right, and_right, ltb-tr
 use Rattle.graph.specs.Graph.{size}
 use Rattle.semispace.specs.declared.collector.Collector.{Collector}
 use Rattle.semispace.specs.declared.collector.Collector.TheVariants.{Scan, Field}
-use Rattle.semispace.specs.Layout.{mem, news}
+use Rattle.semispace.specs.Layout.{mem}
 use Rattle.semispace.specs.Words.{home, State, target, state_at, reference_at, opened, made, fitting_target, fitting_field, put_at, set_collector, written, fields_from, fields_at, own, resting, refers, kind_at, place_of, word_at, next_place}
 use Rattle.semispace.specs.Sound.{the_olds, the_news, the_places, size_of, opened_at, Twin, At, Sound, number, value, name, shown}
 use Rattle.semispace.specs.declared.collector.Target.{Target}
 use Rattle.semispace.specs.declared.collector.Target.TheVariants.{Settled, Placed, Unplaced}
 use Rattle.semispace.specs.declared.collector.Transition.{Transition}
 use Rattle.semispace.specs.declared.collector.Transition.TheVariants.{Word}
-use Rattle.semispace.specs.Dues.{objects, names_below, edge, lives, kept, opened_record, slots_left, fields_left, due}
+use Rattle.semispace.specs.Dues.{objects, names_below, edge, lives, opened_record, slots_left, fields_left}
 use Rattle.semispace.specs.Graphs.{Known}
 use Rattle.semispace.proofs.Spreads.{by_bool, mem_append, mem_left, mem_right, size_two}
 use Rattle.semispace.proofs.Reserving.{places_inside}
 use Rattle.semispace.proofs.ReserveAgree.{new_leads, old_leads_not}
 use Rattle.semispace.proofs.Putting.{all, news_put}
-use Rattle.semispace.proofs.SlotSound.{Forwarded, forward_sound, old}
+use Rattle.semispace.proofs.SlotSound.{Forwarded, forward_sound}
 use Rattle.semispace.proofs.FieldNext.{or3}
 use Rattle.semispace.proofs.OpenSound.{from_old, at_in}
 use Rattle.semispace.proofs.Stepping.{size_is, opened_sound}

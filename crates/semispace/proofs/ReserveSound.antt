@@ -1,7 +1,6 @@
 -- Reserving a place keeps the invariant.
 use Rattle.std.proofs.Common.{◌≡◌, ℕ, ◌+◌, ◌-◌, ◌*◌, ◌/◌, ◌%◌, ◌<◌, ◌≤◌, true, false, ◌&&◌, eqb, ltb, ◌≢◌, ◌⊎◌, List, [], ◌∷◌, ◌++◌, sym, refl, ap, ◌∙◌, subst, ap₂, inl, inr, add_assoc, arith}
 use Rattle.std.proofs.lemmas.Bool.{or_cases, or_from, or_left, or_right, and_left, and_right, lt-leb, le-ltb, ne_eqb, cases_eq, true≢false, false≢true}
-use Rattle.graph.specs.Graph.{size}
 use Rattle.semispace.specs.declared.collector.Collector.{Collector}
 use Rattle.semispace.specs.declared.collector.Collector.TheVariants.{Rest, Slots, Scan, Field}
 use Rattle.semispace.specs.Layout.{size_at, mem, placed, lows, highs, mades, Laid}

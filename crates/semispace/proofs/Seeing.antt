@@ -6,7 +6,6 @@ use Rattle.graph.specs.Graph.{size, Record, ◌∈◌}
 use Rattle.graph.proofs.Changes.{map_in, find_in}
 use Rattle.graph.specs.Sound as G
 use Rattle.graph.specs.Calls as GC
-use Rattle.semispace.specs.declared.collector.Collector.TheVariants.{Field}
 use Rattle.semispace.specs.Layout.{mem}
 use Rattle.semispace.specs.Words.{home, source, State, fields_at, own, resting, refers, kind_at, place_of, word_at}
 use Rattle.semispace.specs.Sound.{the_olds, the_news, the_places, size_of, opened_at, Twin, Sound, number, value, name, shown}
@@ -16,7 +15,7 @@ use Rattle.semispace.specs.Callings.{held_at}
 use Rattle.semispace.proofs.Spreads.{by_bool, mem_append, mem_left, mem_right}
 use Rattle.semispace.proofs.ReserveAgree.{new_leads, old_leads_not}
 use Rattle.semispace.proofs.Putting.{all}
-use Rattle.semispace.proofs.SlotSound.{old, good_cases}
+use Rattle.semispace.proofs.SlotSound.{good_cases}
 use Rattle.semispace.proofs.Stepping.{size_is}
 use Rattle.semispace.proofs.Homes.{twin_number, source_homed}
 use Rattle.semispace.proofs.Like.{the_mades}

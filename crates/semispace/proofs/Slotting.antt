@@ -2,7 +2,7 @@
 use Rattle.std.proofs.Common.{◌≡◌, ℕ, ◌+◌, ◌-◌, ◌<◌, true, eqb, List, length, get_or, set, sym, refl, ap, ◌∙◌, subst, ap₂, inl, inr, arith}
 use Rattle.std.proofs.lemmas.Bool.{eq-eqb}
 use Rattle.kinds.specs.Shapes.{Shape}
-use Rattle.graph.specs.Graph.{size, Graph, prune}
+use Rattle.graph.specs.Graph.{Graph, prune}
 use Rattle.graph.specs.Sound as G
 use Rattle.graph.specs.Calls as GC
 use Rattle.graph.specs.Meaning.{headed_charges}
@@ -10,7 +10,7 @@ use Rattle.graph.proofs.Laws.{after_prune}
 use Rattle.semispace.specs.Layout.{mem}
 use Rattle.semispace.specs.Words.{State, set_slots, forwarded_state, forwarded_reference, put_slot, fields_at, resting, refers, kind_at}
 use Rattle.semispace.specs.Sound.{the_news, Sound, number, value, name}
-use Rattle.semispace.specs.Dues.{objects, lives, kept, due}
+use Rattle.semispace.specs.Dues.{objects, lives, due}
 use Rattle.semispace.specs.Graphs.{raw_of, graph_of, Known, Whole}
 use Rattle.semispace.specs.Collected.{meaning_of, Accepted}
 use Rattle.semispace.specs.Callings.{held_at, dropped, holding, followed}

@@ -1,10 +1,10 @@
 -- The records that calls see are a sound graph.
-use Rattle.std.proofs.Common.{◌≡◌, ℕ, zero, suc, ◌+◌, ◌-◌, ◌<◌, true, false, cond, eqb, ltb, leb, ◌≢◌, ◌⊎◌, List, [], ◌∷◌, ◌++◌, map, length, get_or, take, sym, refl, ap, ◌∙◌, subst, inl, inr, arith}
+use Rattle.std.proofs.Common.{◌≡◌, ℕ, zero, suc, ◌+◌, ◌-◌, ◌<◌, true, false, cond, eqb, ltb, leb, ◌⊎◌, List, [], ◌∷◌, ◌++◌, map, length, get_or, take, sym, refl, ap, ◌∙◌, subst, inl, inr, arith}
 use Rattle.std.proofs.lemmas.Bool.{or_left, or_right, lt-ltb, eq-eqb, ne_eqb, false≢true}
 use Rattle.std.specs.List.{range_with_len}
 use Rattle.std.proofs.lemmas.List.FromFn.{length-map-range_with_len, get_or-map-range_with_len}
 use Rattle.kinds.specs.Shapes.{Shape, no_shape, within}
-use Rattle.graph.specs.Graph.{size, Record, ◌∈◌, Names, Reached, by_slot, by_field}
+use Rattle.graph.specs.Graph.{Record, ◌∈◌, Names, Reached, by_slot, by_field}
 use Rattle.graph.specs.Sound.{Distinct, Has}
 use Rattle.graph.specs.View.{Once}
 use Rattle.graph.proofs.Changes.{in_map, map_in}
@@ -19,8 +19,8 @@ use Rattle.semispace.specs.Graphs.{record_of, raw_of, Known}
 use Rattle.semispace.proofs.Spreads.{spread_inside, by_bool, spread_starts, mem_append, mem_left, mem_right, size_two}
 use Rattle.semispace.proofs.Reserving.{olds_spread, news_spread}
 use Rattle.semispace.proofs.ReserveAgree.{new_leads, old_leads_not}
-use Rattle.semispace.proofs.Putting.{all, apart, news_inside}
-use Rattle.semispace.proofs.SlotSound.{old, good_cases}
+use Rattle.semispace.proofs.Putting.{all, news_inside}
+use Rattle.semispace.proofs.SlotSound.{good_cases}
 use Rattle.semispace.proofs.Homes.{value_good, twin_number}
 use Rattle.semispace.proofs.Stepping.{size_is}
 use Rattle.semispace.proofs.Like.{the_mades, objs_all}

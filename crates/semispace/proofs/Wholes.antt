@@ -1,5 +1,5 @@
 -- The invariant has one proof at most, so a heap's ghost field gives it back.
-use Rattle.std.proofs.Common.{◌≡◌, ℕ, ◌+◌, ◌-◌, ◌<◌, ◌≤◌, Bool, true, false, ◌||◌, eqb, ◌≢◌, List, [], ◌∷◌, ◌++◌, length, get_or}
+use Rattle.std.proofs.Common.{◌≡◌, ℕ, ◌+◌, ◌-◌, Bool, true, ◌||◌, eqb, List, [], ◌∷◌, ◌++◌, get_or}
 use mathlib.Core.Logic.{∥∥₁_elim}
 use mathlib.Core.HLevel.{×_prop, Unit-prop}
 use native.Mathlib.Bridge.{le_prop}
@@ -10,9 +10,8 @@ use Rattle.semispace.specs.declared.halves.Halves.{Halves}
 use Rattle.semispace.specs.declared.collector.Collector.{Collector}
 use Rattle.semispace.specs.declared.collector.Collector.TheVariants.{Rest, Slots, Scan, Field}
 use Rattle.semispace.specs.Layout.{mem, Laid, total, lows, highs, places, mades, old_base, placed}
-use Rattle.semispace.specs.Words.{State, resting, kind_at, place_of, word_at, refers, own, next_place}
-use Rattle.semispace.specs.Sound.{the_olds, the_news, the_places, size_of, good, opened_at, passed_slot, Twin, At, Cycle, Sound}
-use Rattle.semispace.specs.Dues.{objects}
+use Rattle.semispace.specs.Words.{State, kind_at, place_of, word_at, next_place}
+use Rattle.semispace.specs.Sound.{the_olds, the_news, the_places, good, Twin, At, Cycle, Sound}
 use Rattle.semispace.specs.Graphs.{Known, Whole, has_source}
 use Rattle.semispace.proofs.Readying.{bounds_prop}
 

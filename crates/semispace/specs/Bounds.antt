@@ -1,5 +1,5 @@
 -- How large a copying heap's numbers are: the proof that every heap's meaning is bounded.
-use Rattle.std.specs.Prelude.{◌≡◌, ℕ, ◌+◌, ◌-◌, ◌≤◌, Bool, true, false, refl}
+use Rattle.std.specs.Prelude.{◌≡◌, ◌≤◌, Bool, true, false, refl}
 use Rattle.std.proofs.Math.Logic.{∥∥₁_elim}
 use mathlib.Core.HLevel.{×₃_prop}
 use Rattle.std.proofs.Math.Bridge.{le_prop}

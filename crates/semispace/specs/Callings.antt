@@ -1,5 +1,5 @@
 -- What calls do to the words and registers of a copying heap, and what their code asks.
-use Rattle.std.specs.Prelude.{◌≡◌, ℕ, ◌+◌, ◌-◌, ◌<◌, ◌≤◌, true, false, cond, length, set, ◌==◌, slice_index, slice_set}
+use Rattle.std.specs.Prelude.{◌≡◌, ℕ, ◌+◌, ◌-◌, ◌<◌, ◌≤◌, true, false, cond, ◌==◌, slice_index, slice_set}
 use Rattle.graph.specs.Calls.{Call, make, read, write, follow, link, hold, drop, look, spare, Answer, done, word, known}
 use Rattle.graph.specs.Meaning.{Reply, gave, refused}
 use Rattle.semispace.specs.Words.{Bounds, Found, Forwardable, both_halves, made_record, made_at, fields_of, kind_at, word_at, leads_new, State, put_slot, put_at, home, set_slots, forwarded_state, forwarded_reference}

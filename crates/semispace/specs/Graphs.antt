@@ -1,5 +1,5 @@
 -- The graph of a state, and the whole invariant.
-use Rattle.std.specs.Prelude.{◌≡◌, ℕ, ◌+◌, ◌-◌, ◌<◌, Bool, true, false, map, length, take, nat_eq}
+use Rattle.std.specs.Prelude.{◌≡◌, ℕ, ◌+◌, ◌<◌, Bool, true, false, map, length, take, nat_eq}
 use Rattle.std.specs.List.{range_with_len}
 use Rattle.graph.specs.Graph.{Record, Graph, prune}
 use Rattle.semispace.specs.Layout.{mem}

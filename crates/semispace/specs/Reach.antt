@@ -1,5 +1,5 @@
 -- Reaching over a list of addresses.
-use Rattle.std.specs.Prelude.{ℕ, zero, suc, ◌+◌, ◌-◌, Bool, false, cond, ◌&&◌, ◌||◌, List, [], ◌∷◌, length}
+use Rattle.std.specs.Prelude.{ℕ, zero, suc, ◌+◌, Bool, false, cond, ◌&&◌, ◌||◌, List, [], ◌∷◌, length}
 
 -- Does the test pass for some element?
 abbrev pub some : (ℕ → Bool) → List ℕ → Bool

@@ -1,5 +1,5 @@
 -- The laws of the copying heap's words.
-use Rattle.std.specs.Prelude.{◌≡◌, ℕ, ◌+◌, ◌-◌, ◌<◌, ◌≤◌, Bool, true, false, length, slice_index}
+use Rattle.std.specs.Prelude.{◌≡◌, ℕ, ◌+◌, ◌<◌, ◌≤◌, Bool, true, false, length, slice_index}
 use Rattle.graph.specs.Calls as GC
 use Rattle.graph.specs.Cycle.{Step, Idled}
 use Rattle.semispace.specs.Words.{State, fields_of, fields_at, kind_at, refers, stepped, idle_made, idle_ended, idle_state}

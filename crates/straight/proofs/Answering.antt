@@ -1,15 +1,14 @@
 -- What the functions of the straight heap's space ask and promise, from the invariant.
-use Rattle.std.proofs.Common.{◌≡◌, ℕ, ◌+◌, ◌-◌, ◌<◌, ◌≤◌, Bool, true, false, eqb, ltb, List, length, get_or, sym, refl, ap, ◌∙◌, subst, ⊎_elim, arith}
+use Rattle.std.proofs.Common.{◌≡◌, ℕ, ◌+◌, ◌-◌, ◌<◌, ◌≤◌, true, false, eqb, length, sym, ap, ◌∙◌, subst, ⊎_elim, arith}
 use Rattle.std.proofs.lemmas.Bool.{cases_eq, eq-eqb, ne_eqb}
-use Rattle.kinds.specs.Shapes.{Shape, no_shape}
 use Rattle.graph.specs.Graph.{Record, size}
-use Rattle.graph.specs.Calls.{Call, make, read, write, follow, link, hold, drop, look, spare, Answer, slot, held}
+use Rattle.graph.specs.Calls.{Call, make, read, write, follow, link, hold, drop, look, Answer, slot, held}
 use Rattle.graph.specs.Meaning.{refusal, gave, Called}
 use Rattle.straight.specs.Words.{State, reference, place, word_at, words_after, words_answer, Held, Full, Room}
 use Rattle.straight.specs.Layout.{raw_of, meaning_of}
 use Rattle.straight.specs.Whole.{Whole}
 use Rattle.straight.proofs.Wholes.{whole}
-use Rattle.straight.proofs.Reading.{sound, graph_slot, graph_slots, graph_held, held_kind, full_slot, slot_full, slot_empty, slot_place, fields_below}
+use Rattle.straight.proofs.Reading.{graph_slot, graph_slots, graph_held, held_kind, full_slot, slot_full, slot_empty, slot_place, fields_below}
 use Rattle.straight.proofs.Calling.{stands, allowed, count_below, field_held, fitting}
 
 module _ (s : State) (h : ∥ Whole s ∥₁) where

@@ -1,21 +1,20 @@
 -- Every call of a straight heap that is not refused: the state stays whole, and the answer and the meaning after it are the graph's.
-use Rattle.std.proofs.Common.{◌≡◌, ℕ, zero, suc, ◌+◌, ◌-◌, ◌<◌, ◌≤◌, Bool, true, false, cond, eqb, List, map, length, get_or, set, sym, refl, ap, ◌∙◌, subst, ⊎_elim, arith}
+use Rattle.std.proofs.Common.{◌≡◌, ℕ, ◌+◌, ◌-◌, ◌<◌, ◌≤◌, Bool, true, false, cond, eqb, List, length, get_or, sym, refl, ap, ◌∙◌, subst, ⊎_elim, arith}
 use Rattle.std.proofs.lemmas.Bool.{cond-true, cond-false, cases_eq, eq-eqb, ne_eqb, false≢true}
-use Rattle.std.proofs.lemmas.List.{length-set, get_or-map}
+use Rattle.std.proofs.lemmas.List.{get_or-map}
 use Rattle.kinds.specs.Shapes.{Shape, no_shape}
 use Rattle.graph.specs.Graph.{Record, size, refers, prune}
-use Rattle.graph.specs.Calls.{Call, make, read, write, follow, link, hold, drop, look, spare, Answer, done, word, known, slot, held, with_slot, with_field, changed, after, refusal_in, answer_in, paid}
+use Rattle.graph.specs.Calls.{Call, make, read, write, follow, link, hold, drop, look, spare, Answer, done, word, known, held, with_slot, with_field, after, answer_in, paid}
 use Rattle.graph.specs.Sound.{Field, Allowed}
-use Rattle.graph.specs.View.{View}
-use Rattle.graph.specs.Meaning.{Meaning, refusal, answer, gave, Accepted, Called, headed_charges}
+use Rattle.graph.specs.Meaning.{refusal, gave, Called, headed_charges}
 use Rattle.graph.proofs.Prune.{prune_prune}
-use Rattle.graph.proofs.Laws.{refusal_prune, answer_prune, after_prune}
+use Rattle.graph.proofs.Laws.{refusal_prune, answer_prune}
 use Rattle.graph.proofs.Accepted.{accepted, make_room}
-use Rattle.graph.proofs.Views.{path_after, same_after, field_at, raw_slots, raw_next}
-use Rattle.straight.specs.Words.{State, reference, place, spot, word_at, words_after, words_answer, Held, Room}
-use Rattle.straight.specs.Layout.{places, name, shown, view, names, raw_of, meaning_of}
+use Rattle.graph.proofs.Views.{path_after, same_after, field_at, raw_slots}
+use Rattle.straight.specs.Words.{State, reference, place, spot, word_at, words_after, words_answer, Held}
+use Rattle.straight.specs.Layout.{places, name, view, names, raw_of, meaning_of}
 use Rattle.straight.specs.Whole.{Whole, Leads}
-use Rattle.straight.proofs.Reading.{name_full, sound, vw, names_length, raw_slot, graph_slots, graph_next, full_slot, held_place, held_kind, held_none, fields_below, slot_place}
+use Rattle.straight.proofs.Reading.{sound, vw, names_length, raw_slot, graph_next, full_slot, held_place, held_kind, held_none, fields_below, slot_place}
 use Rattle.straight.proofs.Changing.{slot_whole, slot_raw, field_whole, field_raw}
 use Rattle.straight.proofs.Making.{made_whole, made_raw}
 

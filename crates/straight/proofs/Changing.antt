@@ -1,16 +1,16 @@
 -- One slot or one field set: the state stays whole, and its list of records changes as the graph's call says.
-use Rattle.std.proofs.Common.{◌≡◌, ℕ, zero, suc, ◌+◌, ◌-◌, ◌<◌, ◌≤◌, Bool, true, false, cond, eqb, ◌⊎◌, List, [], ◌∷◌, map, length, get_or, take, set, sym, refl, ap, ◌∙◌, subst, inl, inr, ⊎_elim, suc-le-suc, zero-le, arith}
+use Rattle.std.proofs.Common.{◌≡◌, ℕ, zero, suc, ◌+◌, ◌-◌, ◌<◌, ◌≤◌, Bool, true, false, cond, ◌⊎◌, List, [], ◌∷◌, map, length, get_or, take, set, sym, refl, ap, ◌∙◌, subst, inl, inr, ⊎_elim, suc-le-suc, zero-le, arith}
 use lib.Seq.{take-set-lt}
-use Rattle.std.proofs.lemmas.Bool.{cond-true, cond-false, cond_both, cases_eq, cases_Bool}
+use Rattle.std.proofs.lemmas.Bool.{cases_eq}
 use Rattle.std.proofs.lemmas.List.{length-set, get_or-set_same, get_or-set_other, map-set, get_or-take}
 use Rattle.kinds.specs.Shapes.{Shape}
-use Rattle.graph.specs.Graph.{Graph, ◌∈◌, size, refers}
+use Rattle.graph.specs.Graph.{◌∈◌, size, refers}
 use Rattle.graph.specs.Calls.{with_slot, with_field}
-use Rattle.graph.specs.View.{View, raw, Wrote}
+use Rattle.graph.specs.View.{raw, Wrote}
 use Rattle.graph.proofs.Views.{wrote_changed}
 use Rattle.straight.specs.Words.{State, reference, place, spot, word_at, with_memory, with_slots}
 use Rattle.straight.specs.Layout.{places, end_of, name, shown, view, names, raw_of}
-use Rattle.straight.specs.Whole.{Whole, Records, Leads, among}
+use Rattle.straight.specs.Whole.{Whole, Records, Leads}
 use Rattle.straight.proofs.Walk.{set_number, set_kind, set_field, set_laid}
 use Rattle.straight.proofs.Reading.{among_in, name_full, placed_view, slot_number, taken_length, fields_below, slot_place}
 

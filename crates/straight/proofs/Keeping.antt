@@ -1,14 +1,14 @@
 -- The laws of the straight heap's words: what a call leaves as it was.
-use Rattle.std.proofs.Common.{◌≡◌, ℕ, zero, suc, ◌+◌, ◌-◌, ◌<◌, ◌≤◌, Bool, true, false, ◌⊎◌, List, [], ◌∷◌, ◌++◌, length, get_or, set, sym, refl, ap, ◌∙◌, subst, inl, inr, arith}
+use Rattle.std.proofs.Common.{◌≡◌, ℕ, ◌+◌, ◌-◌, ◌<◌, ◌≤◌, Bool, true, false, length, get_or, set, sym, refl, subst, arith}
 use Rattle.std.proofs.lemmas.List.{length-set, get_or-set_other}
 use Rattle.graph.specs.Graph.{◌∈◌, size}
 use Rattle.graph.specs.Calls.{Call, make, read, write, follow, link, hold, drop, look, spare}
-use Rattle.graph.specs.Meaning.{Reply, gave, refused, refusal, Called}
+use Rattle.graph.specs.Meaning.{Reply, gave, refused, refusal}
 use Rattle.straight.specs.declared.heap.Straight.{Straight}
-use Rattle.straight.specs.Words.{State, spot, place, word_at, words_after, laid, cleared, Acted}
+use Rattle.straight.specs.Words.{State, spot, place, word_at, words_after}
 use Rattle.straight.specs.Layout.{places, meaning_of}
 use Rattle.straight.specs.Whole.{Whole}
-use Rattle.straight.specs.Laws.{words, records, Promised, StraightLaws}
+use Rattle.straight.specs.Laws.{words, Promised, StraightLaws}
 use Rattle.straight.proofs.Wholes.{whole}
 use Rattle.straight.proofs.Walk.{set_number, set_kind, set_laid}
 use Rattle.straight.proofs.Making.{laid_length, laid_over, fits, numbers, kinds, old}

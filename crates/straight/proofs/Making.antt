@@ -1,17 +1,16 @@
 -- A record laid at the top: the state stays whole, and its list of records has one more.
 use Rattle.std.proofs.Common.{◌≡◌, ℕ, ◌+◌, ◌-◌, ◌<◌, ◌≤◌, Bool, true, false, cond, ◌⊎◌, List, [], ◌∷◌, ◌++◌, map, length, get_or, take, set, sym, refl, ap, ◌∙◌, subst, inl, inr, ⊎_elim, arith}
 use lib.Seq.{take-set-lt}
-use Rattle.std.proofs.lemmas.Bool.{cases_eq, cond_both}
+use Rattle.std.proofs.lemmas.Bool.{cases_eq}
 use Rattle.std.proofs.lemmas.List.{length-set, get_or-set_same, get_or-set_other, map-set, get_or-take}
-use Rattle.kinds.specs.Shapes.{Shape}
 use Rattle.graph.specs.Graph.{◌∈◌, size, refers}
 use Rattle.graph.specs.Calls.{make, changed}
 use Rattle.graph.specs.Sound.{Same}
-use Rattle.graph.specs.View.{View, raw, Once, Made}
+use Rattle.graph.specs.View.{raw, Made}
 use Rattle.graph.proofs.Views.{made_same}
-use Rattle.straight.specs.Words.{State, reference, laid, cleared, words_after}
+use Rattle.straight.specs.Words.{State, reference, laid, words_after}
 use Rattle.straight.specs.Layout.{places, end_of, name, shown, view, names, raw_of}
-use Rattle.straight.specs.Whole.{Whole, Records, Leads, among}
+use Rattle.straight.specs.Whole.{Whole, Leads, among}
 use Rattle.straight.proofs.Clearing.{cleared_length, cleared_under, cleared_over, cleared_at}
 use Rattle.straight.proofs.Walk.{push_laid, low, laid_once, in_append, append_left, append_right}
 use Rattle.straight.proofs.Reading.{among_in, in_among, name_full, taken_length}

@@ -1,15 +1,15 @@
 -- A heap just opened: its state is whole, and it means an empty graph.
-use Rattle.std.proofs.Common.{◌≡◌, ℕ, zero, suc, ◌+◌, ◌-◌, ◌<◌, ◌≤◌, Bool, true, false, cond, ◌||◌, eqb, ltb, ◌⊎◌, List, [], ◌∷◌, map, length, get_or, take, replicate, sym, refl, ap, ◌∙◌, subst, inl, inr, ⊎_elim, zero-le, arith}
-use Rattle.std.proofs.lemmas.Bool.{or_parts, ltb-false, eqb-false, eq-eqb, ne_eqb, cases_Bool, cases_lt, cond-true, cond-false}
+use Rattle.std.proofs.Common.{◌≡◌, ℕ, zero, suc, ◌-◌, ◌<◌, ◌≤◌, Bool, true, false, cond, ◌||◌, eqb, ltb, List, [], ◌∷◌, map, length, get_or, replicate, sym, refl, ap, ◌∙◌, subst, ⊎_elim, zero-le, arith}
+use Rattle.std.proofs.lemmas.Bool.{or_parts, ltb-false, eqb-false, ne_eqb, cases_lt, cond-false}
 use Rattle.std.proofs.lemmas.List.{take-replicate, get_or-replicate, length-replicate, get_or_past}
 use Rattle.kinds.specs.Shapes.{Shape}
-use Rattle.graph.specs.Graph.{◌∈◌, prune, sort, reached}
+use Rattle.graph.specs.Graph.{◌∈◌, prune, sort}
 use Rattle.graph.specs.View.{View, record_at, raw}
-use Rattle.graph.specs.Meaning.{Meaning, Opened, headed_charges}
+use Rattle.graph.specs.Meaning.{Opened, headed_charges}
 use Rattle.straight.specs.Words.{State, reference}
-use Rattle.straight.specs.Layout.{places, end_of, starts, name, view, names, raw_of, meaning_of}
-use Rattle.straight.specs.Whole.{Whole, Records, Leads, among}
-use Rattle.straight.specs.Opening.{bad_opening, unless_bad, opened, opened_meaning, opening_refusal}
+use Rattle.straight.specs.Layout.{places, name, view, names, raw_of, meaning_of}
+use Rattle.straight.specs.Whole.{Whole}
+use Rattle.straight.specs.Opening.{bad_opening, unless_bad, opened, opened_meaning}
 use Rattle.straight.proofs.Walk.{none_laid}
 
 record Good (words slots first : ℕ) : Type 0 where

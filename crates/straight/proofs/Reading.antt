@@ -1,12 +1,11 @@
 -- What the words of a whole state show: its view is placed, its slots and records are those of the graph.
-use Rattle.std.proofs.Common.{◌≡◌, ℕ, zero, suc, ◌+◌, ◌-◌, ◌<◌, ◌≤◌, Bool, true, false, cond, eqb, ◌⊎◌, List, [], ◌∷◌, map, length, get_or, take, sym, refl, ap, ◌∙◌, subst, inl, inr, ⊎_elim, arith}
+use Rattle.std.proofs.Common.{◌≡◌, ℕ, ◌+◌, ◌-◌, ◌<◌, ◌≤◌, true, eqb, List, [], ◌∷◌, length, get_or, take, sym, refl, ap, ◌∙◌, subst, arith}
 use Rattle.std.proofs.lemmas.Bool.{eqb-true, eqb-false, eq-eqb, ne_eqb, cond-true, cond-false, cond_both, false≢true}
 use Rattle.std.proofs.lemmas.List.{length-map, length-take-le, get_or-take, get_or-map}
-use Rattle.kinds.specs.Shapes.{Shape}
-use Rattle.graph.specs.Graph.{Record, Graph, ◌∈◌, size, refers, prune}
+use Rattle.graph.specs.Graph.{Record, ◌∈◌, size, refers}
 use Rattle.graph.specs.Calls.{no_record, slot, held}
-use Rattle.graph.specs.Sound.{Sound, Field}
-use Rattle.graph.specs.View.{View, record_at, raw, Found, Placed}
+use Rattle.graph.specs.Sound.{Sound}
+use Rattle.graph.specs.View.{View, record_at, Found, Placed}
 use Rattle.graph.proofs.Reach.{any_found, any_from}
 use Rattle.graph.proofs.Prune.{prune_slots, prune_next}
 use Rattle.graph.proofs.Changes.{find_none, held_prune}

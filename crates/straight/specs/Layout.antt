@@ -1,5 +1,5 @@
 -- How the straight heap's words are read: the records one after another, and the graph that they mean.
-use Rattle.std.specs.Prelude.{◌≡◌, ℕ, zero, suc, ◌+◌, ◌-◌, Bool, true, false, cond, List, [], ◌∷◌, map, length, take, ◌==◌, nat_lt, slice_index}
+use Rattle.std.specs.Prelude.{ℕ, zero, suc, ◌+◌, ◌-◌, cond, List, [], ◌∷◌, map, take, ◌==◌, nat_lt, slice_index}
 use Rattle.kinds.specs.Shapes.{Shape}
 use Rattle.graph.specs.Graph.{Graph, size, refers, prune}
 use Rattle.graph.specs.View.{View, raw}

@@ -1,5 +1,5 @@
 -- What a tally counts, and how each call changes it.
-use Rattle.std.specs.Prelude.{ℕ, ◌+◌, ◌-◌, min, max, Bool, cond}
+use Rattle.std.specs.Prelude.{ℕ, ◌+◌, min, max}
 use Rattle.graph.specs.Calls.{Call, make, read, write, follow, link, hold, drop, look, spare}
 use Rattle.graph.specs.Meaning.{Meaning, Reply, gave, refused}
 use Rattle.graph.specs.Cycle.{in_use}

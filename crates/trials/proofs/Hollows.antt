@@ -1,8 +1,8 @@
 -- A heap of no words has the meaning of a collected heap.
-use Rattle.std.proofs.Common.{◌≡◌, ℕ, zero, suc, ◌≤◌, Bool, true, false, [], sym, refl, subst, arith}
+use Rattle.std.proofs.Common.{◌≡◌, ℕ, zero, suc, true, false, sym, refl, subst, arith}
 use Rattle.graph.specs.Graph.{prune, sort}
 use Rattle.graph.specs.Calls.{spare, word, after, live}
-use Rattle.graph.specs.Meaning.{gave, Called, Accepted}
+use Rattle.graph.specs.Meaning.{gave, Called}
 use Rattle.graph.specs.Cycle.{Step, Idled, stop, last}
 use Rattle.trials.specs.Hollow.{hollow}
 

@@ -1,6 +1,6 @@
 use Rattle.std.proofs.Common.{◌≡◌, ℕ, Some, None, Option, subst, arith}
 use Rattle.graph.specs.Calls.{word}
-use Rattle.graph.specs.Meaning.{gave, refused}
+use Rattle.graph.specs.Meaning.{gave}
 use Rattle.keeper.specs.Keeping.{State, Made, Settling}
 use Rattle.keeper.specs.Holding.{state, over, by_bill}
 use Rattle.keeper.proofs.together.make_and_settle.Goals as goal

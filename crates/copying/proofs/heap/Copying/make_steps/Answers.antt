@@ -1,4 +1,4 @@
-use Rattle.std.proofs.Common.{◌≡◌, ◌+◌, ◌<◌, true, false, sym, ◌∙◌, arith}
+use Rattle.std.proofs.Common.{◌≡◌, true, false, sym, ◌∙◌, arith}
 use Rattle.semispace.specs.Words.{resting}
 use Rattle.semispace.specs.View.{view}
 use Rattle.semispace.proofs.Idling.{idle_stop, idle_go, idle_none}

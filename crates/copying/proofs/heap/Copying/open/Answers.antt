@@ -1,4 +1,4 @@
-use Rattle.std.proofs.Common.{◌≡◌, length, sym, ap, ◌∙◌, subst}
+use Rattle.std.proofs.Common.{length, sym, ap, ◌∙◌, subst}
 use Rattle.kinds.specs.Books.{kinds_of}
 use Rattle.graph.specs.Meaning.{Opened}
 use Rattle.semispace.specs.Words.{State}

@@ -1,6 +1,6 @@
-use Rattle.std.proofs.Common.{◌≡◌, sym, subst}
+use Rattle.std.proofs.Common.{sym, subst}
 use mathlib.Core.Logic.{∥∥₁_elim, ∥∥₁_map}
-use Rattle.semispace.specs.Words.{State, Ready}
+use Rattle.semispace.specs.Words.{State}
 use Rattle.semispace.specs.View.{view}
 use Rattle.semispace.specs.Graphs.{Whole}
 use Rattle.semispace.proofs.Stepping.{step_sound}

@@ -1,4 +1,4 @@
-use Rattle.std.proofs.Common.{◌≡◌, ℕ, Bool, Some, None, sym, refl, ap, ◌∙◌, subst}
+use Rattle.std.proofs.Common.{◌≡◌, ℕ, Bool, Some, ap, ◌∙◌, subst}
 use Rattle.keeper.specs.Keeping.{owed}
 use Rattle.keeper.specs.Holding.{state, over}
 use Rattle.keeper.proofs.Settled.{spare_told, settling, ended_is, unbilled}

@@ -1,7 +1,7 @@
-use Rattle.std.proofs.Common.{◌≡◌, ℕ, ◌+◌, ◌<◌, ◌≤◌, List, [], length, take, vec_items, vec_len, vec_capacity, sym, refl, ap, ◌∙◌, subst, arith}
+use Rattle.std.proofs.Common.{◌≡◌, ◌≤◌, List, [], length, vec_items, vec_len, sym, ap, ◌∙◌, subst, arith}
 use Rattle.keeper.specs.declared.orders.Reply.{Reply}
 use Rattle.keeper.specs.Keeping.{State}
-use Rattle.keeper.specs.History.{Moment, Grounds}
+use Rattle.keeper.specs.History.{Grounds}
 use Rattle.keeper.specs.Holding.{state}
 use Rattle.keeper.specs.Play.{Played, none, Ran}
 use Rattle.keeper.specs.Bills.{numbers}

@@ -1,4 +1,4 @@
-use Rattle.std.proofs.Common.{ℕ, List, [], ◌∷◌, ◌++◌, vec_items, ap, ◌∙◌, arith}
+use Rattle.std.proofs.Common.{[], ◌∷◌, ◌++◌, vec_items, ap, ◌∙◌, arith}
 use Rattle.keeper.specs.Bills.{numbers}
 use Rattle.keeper.proofs.BillLists.{pushed}
 use Rattle.keeper.proofs.play.single.make.Goals as goal

@@ -1,6 +1,6 @@
-use Rattle.std.proofs.Common.{◌≡◌, ℕ, ◌<◌, ◌≤◌, Bool, cond, List, [], ◌∷◌, ◌++◌, length, get_or, Some, None, vec_items, vec_len, Option, sym, refl, ap, ◌∙◌, subst, arith}
+use Rattle.std.proofs.Common.{◌≡◌, ℕ, ◌<◌, ◌≤◌, Bool, cond, List, [], ◌∷◌, ◌++◌, length, get_or, Some, None, vec_items, sym, refl, ap, ◌∙◌, subst, arith}
 use Rattle.std.specs.List.{remove}
-use Rattle.keeper.specs.Keeping.{State, Ask, settle, Event, Said, settled, unsettled}
+use Rattle.keeper.specs.Keeping.{State, settle, Event, Said, settled, unsettled}
 use Rattle.keeper.specs.Holding.{state, over}
 use Rattle.keeper.specs.Play.{Taken}
 use Rattle.keeper.specs.Bills.{number, numbers}

@@ -1,5 +1,5 @@
 use Rattle.std.proofs.Common.{sym, ap, arith}
-use Rattle.kinds.specs.Shapes.{Shape, within}
+use Rattle.kinds.specs.Shapes.{Shape}
 use Rattle.kinds.specs.Books.{kinds_of}
 use Rattle.kinds.proofs.Looking.{no_kind}
 use Rattle.kinds.proofs.book.SealedBook.fields.Goals as goal

@@ -1,4 +1,4 @@
-use Rattle.std.proofs.Common.{sym, ap, arith}
+use Rattle.std.proofs.Common.{sym, ap}
 use Rattle.kinds.specs.Shapes.{Shape, within}
 use Rattle.kinds.specs.Books.{kinds_of}
 use Rattle.kinds.proofs.Looking.{no_kind}

@@ -1,8 +1,8 @@
-use Rattle.std.proofs.Common.{◌≡◌, ◌+◌, length, set, sym, ap, ◌∙◌, arith}
+use Rattle.std.proofs.Common.{◌+◌, length, sym, ap, ◌∙◌, arith}
 use Rattle.std.proofs.lemmas.List.{length-set}
 use Rattle.semispace.specs.Words.{State, set_memory, put_at}
 use Rattle.semispace.specs.View.{view}
-use Rattle.semispace.proofs.Clearing.{zeros_more, zeros_none, zeros_length}
+use Rattle.semispace.proofs.Clearing.{zeros_more, zeros_none}
 use Rattle.semispace.proofs.store.Store.clear_fields.Goals as goal
 
 pub loop-i-init : goal.loop-i-init

@@ -1,4 +1,4 @@
-use Rattle.std.proofs.Common.{◌≡◌, ◌+◌, ◌-◌, ap, ◌∙◌}
+use Rattle.std.proofs.Common.{◌+◌, ◌-◌, ap, ◌∙◌}
 use Rattle.semispace.specs.Words.{word_at, home}
 use Rattle.semispace.specs.Sound.{value}
 use Rattle.semispace.specs.View.{view}

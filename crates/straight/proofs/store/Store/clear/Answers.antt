@@ -1,4 +1,4 @@
-use Rattle.std.proofs.Common.{◌≡◌, ◌+◌, length, set, sym, ap, ◌∙◌, arith}
+use Rattle.std.proofs.Common.{◌+◌, length, set, sym, ap, ◌∙◌, arith}
 use Rattle.straight.specs.Words.{State, with_memory}
 use Rattle.straight.specs.Stored.{state}
 use Rattle.straight.proofs.Clearing.{cleared_more, cleared_none, cleared_length}

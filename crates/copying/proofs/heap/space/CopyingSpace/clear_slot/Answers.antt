@@ -1,5 +1,5 @@
-use Rattle.std.proofs.Common.{◌≤◌, sym, refl, ap, subst}
-use Rattle.graph.specs.Calls.{drop, word, done}
+use Rattle.std.proofs.Common.{◌≤◌, sym, refl, subst}
+use Rattle.graph.specs.Calls.{drop, done}
 use Rattle.semispace.specs.View.{view}
 use Rattle.semispace.proofs.Answering.{after_whole, after_called, drop_slot}
 use Rattle.copying.proofs.heap.space.CopyingSpace.clear_slot.Goals as goal

@@ -1,5 +1,5 @@
-use Rattle.std.proofs.Common.{◌≤◌, sym, refl, ap, subst}
-use Rattle.graph.specs.Calls.{hold, word, done}
+use Rattle.std.proofs.Common.{◌≤◌, sym, refl, subst}
+use Rattle.graph.specs.Calls.{hold, done}
 use Rattle.semispace.specs.View.{view}
 use Rattle.semispace.proofs.Answering.{after_whole, after_called, hold_led}
 use Rattle.copying.proofs.heap.space.CopyingSpace.copy_slot.Goals as goal

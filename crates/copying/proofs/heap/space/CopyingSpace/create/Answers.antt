@@ -1,5 +1,5 @@
-use Rattle.std.proofs.Common.{◌≤◌, sym, refl, ap, subst}
-use Rattle.graph.specs.Calls.{make, word, done}
+use Rattle.std.proofs.Common.{◌≤◌, sym, ap, subst}
+use Rattle.graph.specs.Calls.{make, word}
 use Rattle.semispace.specs.View.{view}
 use Rattle.semispace.proofs.Answering.{after_whole, after_called, make_room}
 use Rattle.copying.proofs.heap.space.CopyingSpace.create.Goals as goal

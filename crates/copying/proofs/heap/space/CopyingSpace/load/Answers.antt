@@ -1,5 +1,5 @@
 use Rattle.std.proofs.Common.{◌≤◌, sym, refl, ap, subst}
-use Rattle.graph.specs.Calls.{read, word, done}
+use Rattle.graph.specs.Calls.{read, word}
 use Rattle.semispace.specs.View.{view}
 use Rattle.semispace.proofs.Answering.{after_called, read_held}
 use Rattle.copying.proofs.heap.space.CopyingSpace.load.Goals as goal

@@ -1,5 +1,5 @@
-use Rattle.std.proofs.Common.{◌≤◌, sym, refl, ap, subst}
-use Rattle.graph.specs.Calls.{follow, word, done}
+use Rattle.std.proofs.Common.{◌≤◌, sym, refl, subst}
+use Rattle.graph.specs.Calls.{follow, done}
 use Rattle.semispace.specs.View.{view}
 use Rattle.semispace.proofs.Answering.{after_whole, after_called, follow_held}
 use Rattle.copying.proofs.heap.space.CopyingSpace.load_reference.Goals as goal

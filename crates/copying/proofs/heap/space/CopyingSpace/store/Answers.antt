@@ -1,5 +1,5 @@
-use Rattle.std.proofs.Common.{◌≤◌, sym, refl, ap, subst}
-use Rattle.graph.specs.Calls.{write, word, done}
+use Rattle.std.proofs.Common.{◌≤◌, sym, refl, subst}
+use Rattle.graph.specs.Calls.{write, done}
 use Rattle.semispace.specs.View.{view}
 use Rattle.semispace.proofs.Answering.{after_whole, after_called, write_held}
 use Rattle.copying.proofs.heap.space.CopyingSpace.store.Goals as goal

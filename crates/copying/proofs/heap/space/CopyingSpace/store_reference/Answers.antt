@@ -1,5 +1,5 @@
-use Rattle.std.proofs.Common.{◌≤◌, sym, refl, ap, subst}
-use Rattle.graph.specs.Calls.{link, word, done}
+use Rattle.std.proofs.Common.{◌≤◌, sym, refl, subst}
+use Rattle.graph.specs.Calls.{link, done}
 use Rattle.semispace.specs.View.{view}
 use Rattle.semispace.proofs.Answering.{after_whole, after_called, link_held}
 use Rattle.copying.proofs.heap.space.CopyingSpace.store_reference.Goals as goal

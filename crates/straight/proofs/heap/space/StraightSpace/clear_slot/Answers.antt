@@ -1,5 +1,5 @@
-use Rattle.std.proofs.Common.{refl, ap}
-use Rattle.graph.specs.Calls.{drop, word, done}
+use Rattle.std.proofs.Common.{refl}
+use Rattle.graph.specs.Calls.{drop, done}
 use Rattle.straight.specs.Stored.{state}
 use Rattle.straight.proofs.Answering.{after_whole, after_called, drop_slot}
 use Rattle.straight.proofs.heap.space.StraightSpace.clear_slot.Goals as goal

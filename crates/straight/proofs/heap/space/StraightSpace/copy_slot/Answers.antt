@@ -1,5 +1,5 @@
-use Rattle.std.proofs.Common.{refl, ap}
-use Rattle.graph.specs.Calls.{hold, word, done}
+use Rattle.std.proofs.Common.{refl}
+use Rattle.graph.specs.Calls.{hold, done}
 use Rattle.straight.specs.Stored.{state}
 use Rattle.straight.proofs.Answering.{after_whole, after_called, hold_slots}
 use Rattle.straight.proofs.heap.space.StraightSpace.copy_slot.Goals as goal

@@ -1,5 +1,5 @@
-use Rattle.std.proofs.Common.{refl, ap}
-use Rattle.graph.specs.Calls.{make, word, done}
+use Rattle.std.proofs.Common.{ap}
+use Rattle.graph.specs.Calls.{make, word}
 use Rattle.straight.specs.Stored.{state}
 use Rattle.straight.proofs.Answering.{after_whole, after_called, make_room}
 use Rattle.straight.proofs.heap.space.StraightSpace.create.Goals as goal

@@ -1,6 +1,6 @@
 use Rattle.std.proofs.Common.{ap, ◌∙◌}
-use Rattle.kinds.specs.Shapes.{Shape, within}
-use Rattle.graph.specs.Graph.{size, refers}
+use Rattle.kinds.specs.Shapes.{Shape}
+use Rattle.graph.specs.Graph.{size}
 use Rattle.straight.specs.Stored.{state}
 use Rattle.straight.proofs.Answering.{full_from, kind_is}
 use Rattle.straight.proofs.heap.space.StraightSpace.fields.Goals as goal

@@ -1,5 +1,5 @@
 use Rattle.std.proofs.Common.{refl, ap}
-use Rattle.graph.specs.Calls.{read, word, done}
+use Rattle.graph.specs.Calls.{read, word}
 use Rattle.straight.specs.Stored.{state}
 use Rattle.straight.proofs.Answering.{after_called, read_held}
 use Rattle.straight.proofs.heap.space.StraightSpace.load.Goals as goal

@@ -1,5 +1,5 @@
-use Rattle.std.proofs.Common.{refl, ap}
-use Rattle.graph.specs.Calls.{link, word, done}
+use Rattle.std.proofs.Common.{refl}
+use Rattle.graph.specs.Calls.{link, done}
 use Rattle.straight.specs.Stored.{state}
 use Rattle.straight.proofs.Answering.{after_whole, after_called, link_held}
 use Rattle.straight.proofs.heap.space.StraightSpace.store_reference.Goals as goal
