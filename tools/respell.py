@@ -2,16 +2,19 @@
 """Brings the repository's own definitions and lemmas to today's spelling: words in snake case, facts and types in camel case.
 
 Run once at the top of the repository, right after the kit's script that turns an older repository. It reads what the
-files of specs/ and proofs/ declare, and respells each declared name that has a dash, wherever it stands: in antt, in the
-clauses and ghost lines of the code, and between backquotes in the pages. Names that the check makes (of goals and
-steps), functions of src/, strings, inputs and outputs stay as they are.
+files of specs/ and proofs/ declare, and respells each declared name that has a dash wherever that word stands: in antt, in
+the code but for comments and strings, and between backquotes in the pages. Names that a proof binds for itself, by `let` or
+as a parameter, are respelled in that file. A name in «» that needs none is written bare. Functions of src/, strings, inputs
+and outputs stay as they are. A word is turned whatever it means where it stands, so what the check or the library calls by
+the same word is turned too: docs/PORT.md says which places were turned back.
 """
 
 import glob
 import re
 import sys
 
-# Names that are no plain phrase: facts, and names whose parts are names themselves. The others get `_` for `-`.
+# Facts and types, in camel case; names that join two names, with their dash; then names that stand only behind `as` or in a
+# file of answers. `first_of` gets another name, since a tactic has that one. All other names get `_` for `-`.
 SPECIAL = {
     "Forward-like": "ForwardLike",
     "Home-of": "HomeOf",
@@ -30,7 +33,7 @@ SPECIAL = {
     "first_of": "first_offset",
 }
 
-# A tactic has the name `first_of`, so the lemma of that name, and a local one, get another.
+# Words of antt, which keep their «».
 RESERVED = set(
     "data record deriving module where use mod pub package open as unfoldable abbrev axiom unfold unfolding ruleset "
     "mutual infix infixl infixr elim let in do Type coe fcoe tcoe hcom com".split()
@@ -103,6 +106,10 @@ def turn_code(text, names):
     return "".join(out) + turned(text[at:], names)
 
 
+def turn_antt(text, names):
+    return turned(text, names, local(text))
+
+
 def turn_page(text, names):
     return re.sub(r"`[^`\n]+`", lambda m: turned(m.group(0), names), text)
 
@@ -128,7 +135,6 @@ def main():
         sys.exit("respell: run it at the top of the repository")
     names, everywhere = table(antt)
     apart(names, antt + code)
-    turn_antt = lambda text, names: turned(text, names, local(text))
     for files, turn, words in ((antt, turn_antt, names), (code, turn_code, names), (pages, turn_page, everywhere)):
         for path in files:
             before = open(path, encoding="utf8").read()

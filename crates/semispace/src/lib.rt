@@ -2,8 +2,8 @@
 
 #![tactic(auto)]
 
-pub mod collector;
-pub mod halves;
+mod collector;
+mod halves;
 pub mod store;
 
 ghost use Rattle.semispace.specs.Stands.{Stands};

@@ -18,13 +18,13 @@ pub const MAX_SLOTS: usize = 64;
 /// Lent words, and the registers over them.
 pub struct Store<'m> {
     pub memory: &'m mut [u32],
-    pub slots: [u32; MAX_SLOTS],
+    pub(crate) slots: [u32; MAX_SLOTS],
     pub count: u32,
-    pub book: SealedBook,
+    book: SealedBook,
     pub next: u64,
     pub spare: u32,
     pub halves: Halves,
-    pub collector: Collector,
+    collector: Collector,
 }
 
 /// Letting a heap go leaves the lent words as they were.

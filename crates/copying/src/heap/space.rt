@@ -1,4 +1,4 @@
-//! The copying heap as a space of records: for the calls of this crate alone.
+//! The copying heap as a space of records, over which its calls are written. Programs use `Heap`.
 
 ghost use Rattle.std.specs.Prelude.{refl};
 ghost use Rattle.semispace.specs.View.{view};

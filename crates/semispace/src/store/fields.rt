@@ -90,7 +90,7 @@ impl<'m> Store<'m> {
         }
     }
 
-    pub fn field(&self, at: u32, i: u32) -> u32
+    pub(crate) fn field(&self, at: u32, i: u32) -> u32
         requires bounds { Bounds (view self.now) }
         requires found { Found (view self.now) at i }
         ensures { result ≡ word_at (view self.now) (Home (view self.now) at i + (2 + i)) }
@@ -98,7 +98,7 @@ impl<'m> Store<'m> {
         self.word(self.home(at, i) + (HEAD + i))
     }
 
-    pub fn put_field(&mut self, at: u32, i: u32, word: u32)
+    pub(crate) fn put_field(&mut self, at: u32, i: u32, word: u32)
         requires bounds { Bounds (view self.old) }
         requires found { Found (view self.old) at i }
         ensures { view self.new ≡ put_at (view self.old) (Home (view self.old) at i + (2 + i)) word }

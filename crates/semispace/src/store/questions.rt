@@ -61,7 +61,7 @@ impl<'m> Store<'m> {
     }
 
     /// The number of the record at `at`: of a place that is not opened yet, its old record's.
-    pub fn number(&self, at: u32) -> u32
+    pub(crate) fn number(&self, at: u32) -> u32
         requires { Numbered (view self.now) at }
         ensures { result ≡ Number (view self.now) at }
     {

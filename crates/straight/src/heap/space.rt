@@ -1,4 +1,4 @@
-//! The straight heap as a space of records: for the calls of this crate alone.
+//! The straight heap as a space of records, over which its calls are written. Programs use `Heap`.
 
 ghost use Rattle.std.specs.Prelude.{◌≡◌, refl};
 ghost use Rattle.straight.specs.Stored.{state};
