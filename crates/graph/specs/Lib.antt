@@ -6,3 +6,5 @@ pub mod Meaning
 pub mod Replies
 pub mod Cycle
 pub mod Laws
+pub mod Tests
+pub mod Opening

@@ -1,16 +1,20 @@
-//! The graph of linked records, and what a heap means.
+//! The graph of linked records, what a heap means, and the calls of a heap, written and proved once over any space of records.
 
 #![tactic(auto)]
 
+mod calls;
 pub mod collected;
 pub mod heap;
+pub mod layout;
+pub mod opening;
+mod refusals;
+pub mod slots;
+pub mod space;
 
 ghost use Rattle.graph.specs.Laws.{Laws, Examples};
 
 /// The laws of the graph: the promise is the theorem, there is nothing to run.
-pub fn graph_laws_hold() -> u8
+pub fn graph_laws_hold()
     ensures laws { Laws }
     ensures examples { Examples }
-{
-    0
-}
+{}

@@ -9,7 +9,8 @@ use Rattle.graph.specs.Meaning.{Opened, headed_charges}
 use Rattle.straight.specs.Words.{State, reference}
 use Rattle.straight.specs.Layout.{places, name, view, names, raw_of, meaning_of}
 use Rattle.straight.specs.Whole.{Whole}
-use Rattle.straight.specs.Opening.{bad_opening, unless_bad, opened, opened_meaning}
+use Rattle.graph.specs.Opening.{bad_opening, unless_bad}
+use Rattle.straight.specs.Opening.{opened, opened_meaning}
 use Rattle.straight.proofs.Walk.{none_laid}
 
 record Good (words slots first : ℕ) : Type 0 where

@@ -2,6 +2,7 @@
 
 ghost use Rattle.std.specs.Prelude.{◌≡◌};
 
+use graph::slots::Slots;
 use kinds::book::SealedBook;
 
 pub mod actions;
@@ -9,20 +10,17 @@ pub mod opening;
 pub mod questions;
 pub mod words;
 
-/// The most slots that a heap has.
-pub const MAX_SLOTS: usize = 64;
-
 /// The lent words, the slots, and the registers.
 pub struct Store<'m> {
     pub(crate) memory: &'m mut [u32],
-    pub(crate) slots: [u32; MAX_SLOTS],
-    pub(crate) count: u32,
+    pub(crate) slots: Slots,
     pub(crate) room: u32,
     pub(crate) top: u32,
     pub(crate) next: u64,
     pub(crate) book: SealedBook,
 }
 
+// Kept: a derived `Drop` has no contract, and this one promises what the lender finds.
 impl<'m> Drop for Store<'m> {
     /// Lets the heap go: the lent words stay as the last call left them.
     fn drop(self)
@@ -31,7 +29,6 @@ impl<'m> Drop for Store<'m> {
         let Store {
             memory: _,
             slots: _,
-            count: _,
             room: _,
             top: _,
             next: _,

@@ -3,10 +3,11 @@
 ghost use Rattle.std.specs.Prelude.{◌≡◌, length, if◌then◌else◌};
 ghost use Rattle.kinds.specs.Books.{kinds_of};
 ghost use Rattle.graph.specs.Meaning.{Opened};
-ghost use Rattle.calls.specs.Tests.{tested};
+ghost use Rattle.graph.specs.Opening.{bad_opening};
+ghost use Rattle.graph.specs.Tests.{tested};
 ghost use Rattle.straight.specs.Stored.{state};
 ghost use Rattle.straight.specs.Layout.{meaning_of};
-ghost use Rattle.straight.specs.Opening.{bad_opening, opened, opened_meaning, opening_refusal};
+ghost use Rattle.straight.specs.Opening.{opened, opened_meaning, opening_refusal};
 
 use super::Straight;
 use crate::store::Store;
@@ -30,10 +31,7 @@ impl<'m> Straight<'m> {
     pub fn opening(&self) -> Result<(), Refusal>
         ensures { tested result ≡ opening_refusal (state self.now.store) }
     {
-        if self.store.count == 0 {
-            return Err(Refusal::BadOpening);
-        }
-        Ok(())
+        self.store.slots.opening()
     }
 
     /// The lent words, all of them.

@@ -1,30 +1,38 @@
 //! The straight heap as a space of records, over which its calls are written. Programs use `Heap`.
 
-ghost use Rattle.std.specs.Prelude.{◌≡◌, refl};
+ghost use Rattle.std.specs.Prelude.{refl};
 ghost use Rattle.straight.specs.Stored.{state};
 ghost use Rattle.straight.specs.Layout.{meaning_of};
 ghost use Rattle.straight.specs.Words.{Acted};
+ghost use Rattle.straight.specs.Bounds.{numbers_bounded};
 
 use super::Straight;
-use calls::space::Space;
+use graph::layout::HEAD;
+use graph::space::Space;
 
 impl<'m> Space for Straight<'m> {
     ghost meaning = { λ h. meaning_of (state h.store) };
+
+    ghost bounded = { λ h. numbers_bounded (state h.store) h.whole };
 
     ghost acts = { λ h c r k. Acted (state h.store) c r (state k.store) };
 
     ghost still = { λ h c n. refl };
 
     fn slots(&self) -> u32 {
-        self.store.count
+        self.store.slots.count()
     }
 
     fn kinds(&self) -> u32 {
-        self.store.kinds()
+        self.store.book.kinds()
     }
 
     fn charge(&self, kind: u32) -> u32 {
-        2 + self.store.kind(kind).fields()
+        HEAD + self.store.book.fields(kind)
+    }
+
+    fn room(&self) -> u32 {
+        self.store.room
     }
 
     fn left(&self) -> u32 {
@@ -32,26 +40,26 @@ impl<'m> Space for Straight<'m> {
     }
 
     fn spent(&self) -> bool {
-        self.store.next > 4_294_967_295
+        self.store.next > u32::MAX as u64
     }
 
     fn vacant(&self, slot: u32) -> bool {
-        self.store.slot(slot) == 0
+        self.store.slots.get(slot) == 0
     }
 
     fn fields(&self, slot: u32) -> u32 {
-        self.store.kind_held(slot).fields()
+        self.store.book.fields(self.store.kind_held(slot))
     }
 
     fn refers(&self, slot: u32, field: u32) -> bool {
-        self.store.kind_held(slot).refers(field)
+        self.store.book.refers(self.store.kind_held(slot), field)
     }
 
     fn create(&mut self, slot: u32, kind: u32) -> u32 {
         self.store.lay(slot, kind)
     }
 
-    fn load(&mut self, slot: u32, field: u32) -> u32 {
+    fn load(&self, slot: u32, field: u32) -> u32 {
         self.store.field(slot, field)
     }
 
@@ -75,8 +83,8 @@ impl<'m> Space for Straight<'m> {
         self.store.empty(slot);
     }
 
-    fn describe(&mut self, slot: u32) -> (u32, u32) {
-        if self.store.slot(slot) == 0 {
+    fn describe(&self, slot: u32) -> (u32, u32) {
+        if self.store.slots.get(slot) == 0 {
             return (0, 0);
         }
         self.store.described(slot)

@@ -1,14 +1,12 @@
 //! What each accepted call does to words and slots.
 
-ghost use Rattle.std.specs.Prelude.{◌≡◌, ◌+◌, ◌<◌, ◌≤◌};
+ghost use Rattle.std.specs.Prelude.{◌≡◌};
 ghost use Rattle.graph.specs.Calls.Call.{make as Make, write as Write, follow as Follow, link as Link, hold as Hold, drop as Dropped};
 ghost use Rattle.straight.specs.Stored.{state};
 ghost use Rattle.straight.specs.Words.{Held, Room, spot as Spot, word_at, words_after};
 
 use super::Store;
-
-/// The words of a record before its fields: its number and its kind.
-const HEAD: u32 = 2;
+use graph::layout::HEAD;
 
 impl<'m> Store<'m> {
     /// Lays a record of the kind at the top, and puts it into the slot; gives its number.
@@ -17,13 +15,13 @@ impl<'m> Store<'m> {
         ensures number { result ≡ (state self.old).next }
         ensures after { state self.new ≡ words_after (state self.old) (Make slot kind) }
     {
-        let fields = self.kind(kind).fields();
+        let fields = self.book.fields(kind);
         let at = self.top;
         let number = self.next as u32;
         self.put(at, number);
         self.put(at + 1, kind);
         self.clear(at + HEAD, fields);
-        self.put_slot(slot, at + 1);
+        self.slots.set(slot, at + 1);
         self.top = at + (HEAD + fields);
         self.next += 1;
         number
@@ -34,7 +32,7 @@ impl<'m> Store<'m> {
         requires { Held (state self.now) slot field }
         ensures { result ≡ Spot (state self.now) slot field }
     {
-        self.slot(slot) - 1 + HEAD + field
+        self.slots.get(slot) - 1 + HEAD + field
     }
 
     /// A field of a slot's record.
@@ -56,39 +54,34 @@ impl<'m> Store<'m> {
 
     /// Puts a reference field of a slot's record into another slot.
     pub(crate) fn follow(&mut self, slot: u32, field: u32, to: u32)
-        requires held { Held (state self.old) slot field }
-        requires to { to < (state self.old).count }
+        requires { Held (state self.old) slot field }
         ensures { state self.new ≡ words_after (state self.old) (Follow slot field to) }
     {
         let reference = self.field(slot, field);
-        self.put_slot(to, reference);
+        self.slots.set(to, reference);
     }
 
     /// Sets a reference field of a slot's record to what another slot holds.
     pub(crate) fn link(&mut self, slot: u32, field: u32, from: u32)
-        requires held { Held (state self.old) slot field }
-        requires from { from < (state self.old).count }
+        requires { Held (state self.old) slot field }
         ensures { state self.new ≡ words_after (state self.old) (Link slot field from) }
     {
-        let reference = self.slot(from);
+        let reference = self.slots.get(from);
         self.put_field(slot, field, reference);
     }
 
     /// Puts what a slot holds into another.
     pub(crate) fn hold(&mut self, slot: u32, to: u32)
-        requires slot { slot < 64 }
-        requires to { to < 64 }
         ensures { state self.new ≡ words_after (state self.old) (Hold slot to) }
     {
-        let reference = self.slot(slot);
-        self.put_slot(to, reference);
+        let reference = self.slots.get(slot);
+        self.slots.set(to, reference);
     }
 
     /// Empties a slot.
     pub(crate) fn empty(&mut self, slot: u32)
-        requires { slot < 64 }
         ensures { state self.new ≡ words_after (state self.old) (Dropped slot) }
     {
-        self.put_slot(slot, 0);
+        self.slots.set(slot, 0);
     }
 }

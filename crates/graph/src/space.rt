@@ -1,23 +1,24 @@
-//! What a heap brings of its own: questions about its state, and one action for each call that is not refused.
+//! What a heap over a store of records brings of its own: questions about its state, and one action for each call that
+//! is not refused. `Heap` is written once over it, so that each call is tested by the same table.
 
 ghost use Rattle.std.specs.Prelude.{◌≡◌, ℕ, ◌<◌, length, ◌==◌, nat_lt, slice_index};
 ghost use Rattle.graph.specs.Graph.{size, refers as Refers};
-ghost use Rattle.graph.specs.Meaning.{Meaning, Called, Reply, refusal};
+ghost use Rattle.graph.specs.Meaning.{Meaning, Bounded, Called, Reply, refusal};
 ghost use Rattle.graph.specs.Meaning.Reply.{gave, refused};
 ghost use Rattle.graph.specs.Calls.{Call, slot as Slot, held};
 ghost use Rattle.graph.specs.Calls.Answer.{word as Word, done, known};
-ghost use Rattle.graph.specs.Calls.Call.{make as Make, read as Read, write as Write, follow as Follow, link as Link, hold as Hold, drop as Dropped, look as Look};
+ghost use Rattle.graph.specs.Calls.Call.{make as Make, read as Read, write as Write, follow as Follow, link as Link, hold as Hold, drop as Dropped, look as Look, spare as Spare};
 
-/// A store of records behind slots.
+/// A store of records behind slots. Its questions and actions ask what the tests of a call have found; programs use `Heap`.
 pub trait Space {
     /// What the space means.
     ghost meaning: { Self → Meaning };
 
+    /// How large the numbers of a space are.
+    ghost bounded: { (s : Self) → Bounded (meaning s) };
+
     /// What a call does in the space's own terms.
     ghost acts: { Self → Call → Reply → Self → Type 0 };
-
-    /// A refused call leaves everything.
-    ghost still: { (s : Self) (c : Call) (n : ℕ) → acts s c (refused n) s };
 
     /// The number of slots.
     fn slots(&self) -> u32
@@ -32,9 +33,15 @@ pub trait Space {
         requires { kind < length (meaning self.now).book }
         ensures { result ≡ slice_index (meaning self.now).charges kind };
 
+    /// The capacity.
+    fn room(&self) -> u32
+        ensures { result ≡ (meaning self.now).capacity };
+
     /// The spare words.
     fn left(&self) -> u32
-        ensures { result ≡ (meaning self.now).spare };
+        ensures spare { result ≡ (meaning self.now).spare }
+        ensures means { Called (meaning self.now) Spare (gave (Word result)) (meaning self.now) }
+        ensures acts { acts self.now Spare (gave (Word result)) self.now };
 
     /// Has the last number been given?
     fn spent(&self) -> bool
@@ -64,10 +71,10 @@ pub trait Space {
         ensures acts { acts self.old (Make slot kind) (gave (Word result)) self.new };
 
     /// Reads a word field.
-    fn load(&mut self, slot: u32, field: u32) -> u32
-        requires { refusal (meaning self.old) (Read slot field) ≡ 0 }
-        ensures means { Called (meaning self.old) (Read slot field) (gave (Word result)) (meaning self.new) }
-        ensures acts { acts self.old (Read slot field) (gave (Word result)) self.new };
+    fn load(&self, slot: u32, field: u32) -> u32
+        requires { refusal (meaning self.now) (Read slot field) ≡ 0 }
+        ensures means { Called (meaning self.now) (Read slot field) (gave (Word result)) (meaning self.now) }
+        ensures acts { acts self.now (Read slot field) (gave (Word result)) self.now };
 
     /// Writes a word field.
     fn store(&mut self, slot: u32, field: u32, word: u32)
@@ -100,8 +107,11 @@ pub trait Space {
         ensures acts { acts self.old (Dropped slot) (gave done) self.new };
 
     /// Number and kind of a slot's record, both 0 for an empty slot.
-    fn describe(&mut self, slot: u32) -> (u32, u32)
-        requires { refusal (meaning self.old) (Look slot) ≡ 0 }
-        ensures means { Called (meaning self.old) (Look slot) (gave (known result.0 result.1)) (meaning self.new) }
-        ensures acts { acts self.old (Look slot) (gave (known result.0 result.1)) self.new };
+    fn describe(&self, slot: u32) -> (u32, u32)
+        requires { refusal (meaning self.now) (Look slot) ≡ 0 }
+        ensures means { Called (meaning self.now) (Look slot) (gave (known result.0 result.1)) (meaning self.now) }
+        ensures acts { acts self.now (Look slot) (gave (known result.0 result.1)) self.now };
+
+    /// A refused call leaves everything.
+    ghost still: { (s : Self) (c : Call) (n : ℕ) → acts s c (refused n) s };
 }

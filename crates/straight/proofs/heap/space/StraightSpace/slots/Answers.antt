@@ -1,6 +1,0 @@
-use Rattle.straight.specs.Stored.{state}
-use Rattle.straight.proofs.Answering.{count_is}
-use Rattle.straight.proofs.heap.space.StraightSpace.slots.Goals as goal
-
-pub returns : goal.returns
-returns c = count_is (state c.args.self.now.store) c.args.self.now.whole
