@@ -7,3 +7,4 @@ pub mod Live
 pub mod Accepted
 pub mod Shown
 pub mod Views
+pub mod Clearing

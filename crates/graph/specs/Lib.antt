@@ -8,3 +8,4 @@ pub mod Cycle
 pub mod Laws
 pub mod Tests
 pub mod Opening
+pub mod Clearing

@@ -1,8 +1,8 @@
 -- What the functions of the straight heap's space ask and promise, from the invariant.
 use Rattle.std.proofs.Common.{◌≡◌, ℕ, ◌+◌, ◌-◌, ◌<◌, ◌≤◌, true, false, eqb, length, sym, ap, ◌∙◌, subst, ⊎_elim, arith}
-use Rattle.std.proofs.lemmas.Bool.{cases_eq, eq-eqb, ne_eqb}
+use Rattle.std.proofs.lemmas.Bool.{cases_eq, cond-false, eq-eqb, ne_eqb}
 use Rattle.graph.specs.Graph.{Record, size}
-use Rattle.graph.specs.Calls.{Call, make, read, write, follow, link, hold, drop, look, Answer, slot, held}
+use Rattle.graph.specs.Calls.{Call, make, read, write, follow, link, look, known, Answer, slot, held}
 use Rattle.graph.specs.Meaning.{refusal, gave, Called}
 use Rattle.straight.specs.Words.{State, reference, place, word_at, words_after, words_answer, Held, Full, Room}
 use Rattle.straight.specs.Layout.{raw_of, meaning_of}
@@ -33,12 +33,6 @@ module _ (s : State) (h : ∥ Whole s ∥₁) where
 
   counted : (a : ℕ) → a < length (meaning_of s).graph.slots → a < s.count
   counted a l = subst (λ n. a < n) (graph_slots s w) l
-
-  pub in_array : (a : ℕ) → a < s.count → a < 64
-  in_array a l = let f : s.count ≤ 64 = w.few in omega arith
-
-  pub slot_in_array : (a : ℕ) → a < length (meaning_of s).graph.slots → a < 64
-  slot_in_array a l = in_array a (counted a l)
 
   pub vacant_is : (a : ℕ) → a < length (meaning_of s).graph.slots → eqb (reference s a) 0 ≡ eqb (slot (meaning_of s).graph a) 0
   vacant_is a l =
@@ -76,23 +70,20 @@ module _ (s : State) (h : ∥ Whole s ∥₁) where
   pub write_held : (a i v : ℕ) → refusal (meaning_of s) (write a i v) ≡ 0 → Held s a i
   write_held a i v f = let p = allowed s w (write a i v) f in field_held s w a i false p.0 p.1
 
-  pub follow_held : (a i b : ℕ) → refusal (meaning_of s) (follow a i b) ≡ 0 → Held s a i × (b < s.count)
-  follow_held a i b f = let p = allowed s w (follow a i b) f in (field_held s w a i true p.0 p.2, count_below s w b p.1)
+  pub follow_held : (a i b : ℕ) → refusal (meaning_of s) (follow a i b) ≡ 0 → Held s a i
+  follow_held a i b f = let p = allowed s w (follow a i b) f in field_held s w a i true p.0 p.2
 
-  pub link_held : (a i b : ℕ) → refusal (meaning_of s) (link a i b) ≡ 0 → Held s a i × (b < s.count)
-  link_held a i b f = let p = allowed s w (link a i b) f in (field_held s w a i true p.0 p.2, count_below s w b p.1)
-
-  pub hold_slots : (a b : ℕ) → refusal (meaning_of s) (hold a b) ≡ 0 → (a < 64) × (b < 64)
-  hold_slots a b f = let p = allowed s w (hold a b) f in (in_array a (count_below s w a p.0), in_array b (count_below s w b p.1))
-
-  pub drop_slot : (a : ℕ) → refusal (meaning_of s) (drop a) ≡ 0 → a < 64
-  drop_slot a f = in_array a (count_below s w a (allowed s w (drop a) f))
-
-  pub look_slot : (a : ℕ) → refusal (meaning_of s) (look a) ≡ 0 → a < 64
-  look_slot a f = in_array a (count_below s w a (allowed s w (look a) f))
+  pub link_held : (a i b : ℕ) → refusal (meaning_of s) (link a i b) ≡ 0 → Held s a i
+  link_held a i b f = let p = allowed s w (link a i b) f in field_held s w a i true p.0 p.2
 
   pub look_full : (a : ℕ) → refusal (meaning_of s) (look a) ≡ 0 → 0 < reference s a → Full s a
   look_full a f z = full_at a (count_below s w a (allowed s w (look a) f)) z
+
+  pub look_empty : (a : ℕ) → reference s a ≡ 0 → known 0 0 ≡ words_answer s (look a)
+  look_empty a e = rw e
+
+  pub look_known : (a n k : ℕ) → 0 < reference s a → n ≡ word_at s (place s a) → k ≡ word_at s (place s a + 1) → known n k ≡ words_answer s (look a)
+  look_known a n k z e f = rw (e, f) (sym (cond-false (eqb (reference s a) 0) (known 0 0) _ (ne_eqb (reference s a) 0 (λ x. omega arith))))
 
   pub make_room : (a k : ℕ) → refusal (meaning_of s) (make a k) ≡ 0 → Room s a k
   make_room a k f =

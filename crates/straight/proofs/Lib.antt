@@ -1,4 +1,3 @@
-pub mod Clearing
 pub mod Walk
 pub mod Wholes
 pub mod Reading

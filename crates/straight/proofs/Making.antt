@@ -11,7 +11,7 @@ use Rattle.graph.proofs.Views.{made_same}
 use Rattle.straight.specs.Words.{State, reference, laid, words_after}
 use Rattle.straight.specs.Layout.{places, end_of, name, shown, view, names, raw_of}
 use Rattle.straight.specs.Whole.{Whole, Leads, among}
-use Rattle.straight.proofs.Clearing.{cleared_length, cleared_under, cleared_over, cleared_at}
+use Rattle.graph.proofs.Clearing.{cleared_length, cleared_under, cleared_over, cleared_at}
 use Rattle.straight.proofs.Walk.{push_laid, low, laid_once, in_append, append_left, append_right}
 use Rattle.straight.proofs.Reading.{among_in, in_among, name_full, taken_length}
 use Rattle.straight.proofs.Changing.{name_kept, map_names, shown_kept}

@@ -1,7 +1,8 @@
 -- The straight heap's words and registers, and what each call makes of them.
-use Rattle.std.specs.Prelude.{◌≡◌, ℕ, zero, suc, ◌+◌, ◌-◌, ◌<◌, ◌≤◌, cond, List, length, ◌==◌, slice_index, slice_set}
+use Rattle.std.specs.Prelude.{◌≡◌, ℕ, ◌+◌, ◌-◌, ◌<◌, ◌≤◌, cond, List, length, ◌==◌, slice_index, slice_set}
 use Rattle.kinds.specs.Shapes.{Shape}
 use Rattle.graph.specs.Graph.{size}
+use Rattle.graph.specs.Clearing.{cleared}
 use Rattle.graph.specs.Calls.{Call, make, read, write, follow, link, hold, drop, look, spare, Answer, done, word, known}
 use Rattle.graph.specs.Meaning.{Reply, gave, refused}
 
@@ -36,11 +37,6 @@ spot s a i = place s a + 2 + i
 
 abbrev pub word_at : State → ℕ → ℕ
 word_at s p = slice_index s.memory p
-
--- n words from p on become 0.
-unfoldable pub cleared : List ℕ → ℕ → ℕ → List ℕ
-cleared m p zero = m
-cleared m p (suc n) = slice_set (cleared m p n) (p + n) 0
 
 -- A record of kind k with n empty fields at p.
 abbrev pub laid : List ℕ → ℕ → ℕ → ℕ → ℕ → List ℕ

@@ -5,5 +5,4 @@ ghost use Rattle.straight.specs.Laws.{StraightLaws};
 /// What every call leaves of the lent words: the promise is the theorem, there is nothing to run.
 pub fn straight_laws_hold()
     ensures { StraightLaws }
-{
-}
+{}

@@ -1,8 +1,9 @@
 //! Single words, and runs of words that are cleared.
 
 ghost use Rattle.std.specs.Prelude.{◌≡◌, ◌+◌, ◌<◌, ◌≤◌, length, slice_set};
+ghost use Rattle.graph.specs.Clearing.{cleared};
 ghost use Rattle.straight.specs.Stored.{state};
-ghost use Rattle.straight.specs.Words.{with_memory, word_at, cleared};
+ghost use Rattle.straight.specs.Words.{with_memory, word_at};
 
 use super::Store;
 
