@@ -89,10 +89,9 @@ module _ (s : State) (h : ∥ Whole s ∥₁) where
       let l = count_below s w a (allowed s w (look a) f) in
       (full_at s w.sound w.known a l z, numbered_at s w.sound w.known a l z)
 
-  pub make_room : length s.book ≤ 16 → (a k : ℕ) → refusal (meaning_of s) (make a k) ≡ 0 → Makeable s a k
-  make_room few a k f =
+  pub make_room : (a k : ℕ) → refusal (meaning_of s) (make a k) ≡ 0 → Makeable s a k
+  make_room a k f =
       let g = fitting s w a k f in
       let c = g.charge in
-      let kk = g.kind in
       let r = room_left s w.sound in
-      record { bounds = w.sound.bounds; slot = in_array s w.sound w.known a g.slot; kind = omega arith; number = g.number; room = omega arith; charge = c }
+      record { slot = in_array s w.sound w.known a g.slot; number = g.number; room = omega arith; charge = c }

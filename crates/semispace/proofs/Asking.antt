@@ -5,7 +5,7 @@ use Rattle.kinds.specs.Shapes.{Shape}
 use Rattle.graph.specs.Graph.{size}
 use Rattle.semispace.specs.declared.collector.Target.TheVariants.{Settled}
 use Rattle.semispace.specs.Layout.{mem, mades}
-use Rattle.semispace.specs.Words.{State, Bounds, both_halves, leads_new, resting, kind_at, place_of, fields_at, word_at, home, target, Found, Forwardable, forwarded_state, forwarded_reference, refers}
+use Rattle.semispace.specs.Words.{State, both_halves, leads_new, resting, kind_at, place_of, fields_at, word_at, home, target, Found, Forwardable, forwarded_state, forwarded_reference, refers}
 use Rattle.semispace.specs.Sound.{the_olds, the_news, the_places, size_of, opened_at, Twin, value, Sound}
 use Rattle.semispace.specs.Graphs.{Known}
 use Rattle.semispace.specs.Callings.{held_at, Full, Held, Numbered, Led, Linkable}
@@ -88,13 +88,12 @@ module _ (s : State) (S : Sound s) (K : Known s) where
   in_array a l = let f = S.bounds.few in omega arith
 
   pub full_at : (a : ℕ) → a < s.count → 0 < get_or s.slots a 0 → Full s a
-  full_at a l z = record { bounds = S.bounds; slot = in_array a l; full = z; inside = inside (held_at s a) (in_all (held_at s a) (slot_leads s S K a l z)) }
+  full_at a l z = record { slot = in_array a l; full = z; inside = inside (held_at s a) (in_all (held_at s a) (slot_leads s S K a l z)) }
 
   pub numbered_at : (a : ℕ) → a < s.count → 0 < get_or s.slots a 0 → Numbered s (held_at s a)
   numbered_at a l z =
       let k = in_all (held_at s a) (slot_leads s S K a l z) in
       record {
-        bounds = S.bounds;
         inside = inside (held_at s a) k;
         some = λ e d. head_some (held_at s a) (new_in (held_at s a) k e);
         old = λ e d. unopened_old (held_at s a) (new_in (held_at s a) k e) d;
@@ -114,7 +113,7 @@ module _ (s : State) (S : Sound s) (K : Known s) where
       (inside x k, (λ p q. head_some x (new_in x k p)), omega arith)
 
   pub held_from : (a i : ℕ) (t : Bool) → Meets s a i t → Held s a i
-  held_from a i t m = record { bounds = S.bounds; slot = in_array a m.slot; full = m.full; found = found_at a i m.slot m.full m.below }
+  held_from a i t m = record { slot = in_array a m.slot; full = m.full; found = found_at a i m.slot m.full m.below }
 
   -- references that may be put
   pub puttable : (r : ℕ) → Reference s S K r → Forwardable s r
@@ -137,7 +136,7 @@ module _ (s : State) (S : Sound s) (K : Known s) where
       (λ e. forwardable s S e r (g.1 e))
 
   pub led_from : (a b : ℕ) → a < s.count → b < s.count → Led s a b
-  led_from a b l k = record { bounds = S.bounds; slot = in_array a l; to = in_array b k; led = puttable (get_or s.slots a 0) (slot_reference s S K a l) }
+  led_from a b l k = record { slot = in_array a l; to = in_array b k; led = puttable (get_or s.slots a 0) (slot_reference s S K a l) }
 
   pub value_led : (a i : ℕ) → Meets s a i true → Forwardable s (value s (held_at s a) i)
   value_led a i m =
@@ -153,9 +152,9 @@ pub linkable_from : (s : State) (S : Sound s) (K : Known s) (a i b : ℕ) → Me
 linkable_from s S K a i b m lb =
     let rb = get_or s.slots b 0 in
     let z = go (forwarded_state s rb) (forwarded_reference s rb) (forth s S K rb (slot_reference s S K b lb) (λ x k e. lives_root s x (root_slot s b x S.enough lb e))) in
-    record { bounds = S.bounds; slot = in_array s S K a m.slot; from = in_array s S K b lb; full = m.full; led = puttable s S K rb (slot_reference s S K b lb); bounded = z.0; found = z.1 }
+    record { slot = in_array s S K a m.slot; from = in_array s S K b lb; full = m.full; led = puttable s S K rb (slot_reference s S K b lb); found = z }
   where
-    go : (t : State) (v : ℕ) → Forth s t (get_or s.slots b 0) v → Bounds t × Found t (held_at s a) i
+    go : (t : State) (v : ℕ) → Forth s t (get_or s.slots b 0) v → Found t (held_at s a) i
     go t v F =
         let ec = F.count in
         let l = m.slot in
@@ -167,4 +166,4 @@ linkable_from s S K a i b m lb =
         let kx : kind_at t (held_at t a) ≡ kind_at s (held_at s a) = ap (kind_at t) ha ∙ F.kind (held_at s a) (slot_leads s S K a m.slot m.full) in
         let bb = m.below in
         let bt : i < fields_at t (held_at t a) = let e : fields_at t (held_at t a) ≡ fields_at s (held_at s a) = ap₂ (λ (b : List Shape) k. size b k) F.book kx in omega arith in
-        (F.sound.bounds, subst (λ x. Found t x i) ha (found_at t F.sound F.known a i lat ft bt))
+        subst (λ x. Found t x i) ha (found_at t F.sound F.known a i lat ft bt)

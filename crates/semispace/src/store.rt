@@ -1,6 +1,6 @@
 //! The words and registers of a copying heap.
 
-ghost use Rattle.std.specs.Prelude.{◌≡◌};
+ghost use Rattle.std.specs.Prelude.{◌≡◌, ◌+◌, ◌≤◌, length};
 
 use crate::collector::Collector;
 use crate::halves::Halves;
@@ -25,6 +25,12 @@ pub struct Store<'m> {
     pub spare: u32,
     pub halves: Halves,
     collector: Collector,
+    ghost few: { count ≤ 64 },
+    ghost half: { halves.size + halves.size ≤ length memory.now },
+    ghost small: { halves.size ≤ 8192 },
+    ghost side: { halves.base ≤ halves.size },
+    ghost ends: { halves.low ≤ halves.high },
+    ghost top: { halves.high ≤ halves.size },
 }
 
 /// Letting a heap go leaves the lent words as they were.

@@ -2,7 +2,7 @@
 
 ghost use Rattle.std.specs.Prelude.{◌≡◌, ◌+◌, ◌-◌, ◌<◌};
 ghost use Rattle.semispace.specs.View.{view};
-ghost use Rattle.semispace.specs.Words.{Bounds, Forwardable, put_slot};
+ghost use Rattle.semispace.specs.Words.{Forwardable, put_slot};
 ghost use Rattle.semispace.specs.Sound.{value};
 ghost use Rattle.semispace.specs.Callings.{words_after, held_at, Held, Led, Linkable, Makeable};
 ghost use Rattle.graph.specs.Calls.Call.{make as Make, write as Write, follow as Follow, link as Link, hold as Hold, drop as Dropped};
@@ -26,6 +26,7 @@ impl<'m> Store<'m> {
         number
     }
 
+    #[tactic(auto, unfolding(crate::specs::Sound::value))]
     /// A field of the slot's record.
     pub fn read(&self, slot: u32, field: u32) -> u32
         requires { Held (view self.now) slot field }
@@ -45,8 +46,7 @@ impl<'m> Store<'m> {
 
     /// Puts a reference into a slot: in a cycle the place, reserved if there is none.
     fn put_slot(&mut self, slot: u32, reference: u32)
-        requires bounds { Bounds (view self.old) }
-        requires slot_bound { (slot < 64) × (Forwardable (view self.old) reference) }
+        requires { (slot < 64) × (Forwardable (view self.old) reference) }
         ensures { view self.new ≡ put_slot (view self.old) slot reference }
     {
         let put = self.forwarded(reference);

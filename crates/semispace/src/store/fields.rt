@@ -2,7 +2,7 @@
 
 ghost use Rattle.std.specs.Prelude.{◌≡◌, ◌+◌, ◌-◌, ◌<◌, ◌≤◌};
 ghost use Rattle.semispace.specs.View.{view};
-ghost use Rattle.semispace.specs.Words.{Bounds, both_halves, word_at, put_at, front as Front, filled as Filled, own as Own, source as Source, home as Home, Found, zeros, set_memory, made_record, made_at, fields_of};
+ghost use Rattle.semispace.specs.Words.{both_halves, word_at, put_at, front as Front, filled as Filled, own as Own, source as Source, home as Home, Found, zeros, set_memory, made_record, made_at, fields_of};
 
 use super::Store;
 use crate::collector::Collector;
@@ -12,7 +12,6 @@ const HEAD: u32 = 2;
 impl<'m> Store<'m> {
     /// Where the places begin that have not been closed, and how many fields of the first have been copied.
     pub(super) fn front(&self) -> u32
-        requires { Bounds (view self.now) }
         ensures { result ≡ Front self.now.halves.base self.now.halves.size self.now.collector }
     {
         match self.collector {
@@ -28,7 +27,6 @@ impl<'m> Store<'m> {
     }
 
     fn filled(&self) -> u32
-        requires { Bounds (view self.now) }
         ensures { result ≡ Filled self.now.collector }
     {
         match self.collector {
@@ -43,7 +41,6 @@ impl<'m> Store<'m> {
 
     /// Is field `i` of the record at `at` in the new half already its own?
     fn owns(&self, at: u32, i: u32) -> bool
-        requires { Bounds (view self.now) }
         ensures { result ≡ Own self.now.halves self.now.collector at i }
     {
         self.halves.base + self.halves.high <= at
@@ -53,8 +50,7 @@ impl<'m> Store<'m> {
 
     /// The old record of a place.
     fn source(&self, at: u32) -> u32
-        requires bounds { Bounds (view self.now) }
-        requires at_bound { (at < both_halves (view self.now)) × (0 < word_at (view self.now) at) }
+        requires { (at < both_halves (view self.now)) × (0 < word_at (view self.now) at) }
         ensures { result ≡ Source (view self.now).memory self.now.collector at }
     {
         match self.collector {
@@ -69,8 +65,7 @@ impl<'m> Store<'m> {
 
     /// The record that has field `i` of the record at `at` now: the new copy if the field has been copied, else the old one.
     fn home(&self, at: u32, i: u32) -> u32
-        requires bounds { Bounds (view self.now) }
-        requires found { Found (view self.now) at i }
+        requires { Found (view self.now) at i }
         ensures { result ≡ Home (view self.now) at i }
     {
         if self.halves.leads_new(at + 1) {
@@ -91,16 +86,14 @@ impl<'m> Store<'m> {
     }
 
     pub(crate) fn field(&self, at: u32, i: u32) -> u32
-        requires bounds { Bounds (view self.now) }
-        requires found { Found (view self.now) at i }
+        requires { Found (view self.now) at i }
         ensures { result ≡ word_at (view self.now) (Home (view self.now) at i + (2 + i)) }
     {
         self.word(self.home(at, i) + (HEAD + i))
     }
 
     pub(crate) fn put_field(&mut self, at: u32, i: u32, word: u32)
-        requires bounds { Bounds (view self.old) }
-        requires found { Found (view self.old) at i }
+        requires { Found (view self.old) at i }
         ensures { view self.new ≡ put_at (view self.old) (Home (view self.old) at i + (2 + i)) word }
     {
         let place = self.home(at, i) + (HEAD + i);
@@ -108,19 +101,16 @@ impl<'m> Store<'m> {
     }
 
     fn clear_fields(&mut self, at: u32, fields: u32)
-        requires bounds { Bounds (view self.old) }
-        requires fields_bound { at + 2 + fields ≤ both_halves (view self.old) }
+        requires { at + 2 + fields ≤ both_halves (view self.old) }
         ensures { view self.new ≡ set_memory (view self.old) (zeros (view self.old).memory (at + 2) fields) }
     {
-        for i in 0..fields {
-            self.put(at + HEAD + i, 0);
-        }
+        let first = (at + HEAD) as usize;
+        self.memory[first..first + fields as usize].fill(0);
     }
 
     /// Puts a record of the kind at the high end; gives its address.
     pub(super) fn place_record(&mut self, kind: u32, number: u32) -> u32
-        requires bounds { Bounds (view self.old) }
-        requires kind_bound { (kind < 16) × (self.old.halves.low + (2 + fields_of (view self.old).book kind) ≤ self.old.halves.high) }
+        requires { self.old.halves.low + (2 + fields_of (view self.old).book kind) ≤ self.old.halves.high }
         ensures { (result ≡ made_at (view self.old) kind) × (view self.new ≡ made_record (view self.old) kind number) }
     {
         let fields = self.book.fields(kind);

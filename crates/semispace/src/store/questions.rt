@@ -2,7 +2,7 @@
 
 ghost use Rattle.std.specs.Prelude.{◌≡◌, ◌+◌, ◌-◌, ◌<◌, ◌≤◌, length, slice_index};
 ghost use Rattle.semispace.specs.View.{view};
-ghost use Rattle.semispace.specs.Words.{Bounds, fields_of, fields_at, kind_at, refers as Refers};
+ghost use Rattle.semispace.specs.Words.{fields_of, fields_at, kind_at, refers as Refers};
 ghost use Rattle.semispace.specs.Sound.{opened_at, number as Number};
 ghost use Rattle.semispace.specs.Callings.{held_at, Full, Numbered};
 
@@ -19,7 +19,6 @@ impl<'m> Store<'m> {
 
     /// The number of fields of a kind of the book.
     pub fn fields_of(&self, kind: u32) -> u32
-        requires { kind < length (view self.now).book }
         ensures fields { result ≡ fields_of (view self.now).book kind }
         ensures few { result ≤ 62 }
     {
@@ -52,7 +51,6 @@ impl<'m> Store<'m> {
 
     /// Has the place at `at` been opened? Records made in the cycle count as opened.
     fn opened(&self, at: u32) -> bool
-        requires { Bounds (view self.now) }
         ensures { result ≡ opened_at self.now.halves self.now.collector at }
     {
         self.halves.base + self.halves.high <= at
@@ -60,6 +58,7 @@ impl<'m> Store<'m> {
             || at == self.front() && matches!(self.collector, Collector::Field { .. })
     }
 
+    #[tactic(auto, unfolding(crate::specs::Sound::number))]
     /// The number of the record at `at`: of a place that is not opened yet, its old record's.
     pub(crate) fn number(&self, at: u32) -> u32
         requires { Numbered (view self.now) at }

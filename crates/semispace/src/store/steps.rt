@@ -2,7 +2,7 @@
 
 ghost use Rattle.std.specs.Prelude.{◌≡◌, ◌+◌, ◌-◌, ◌*◌, ◌/◌, ◌%◌, ◌<◌};
 ghost use Rattle.semispace.specs.View.{view};
-ghost use Rattle.semispace.specs.Words.{Bounds, both_halves, word_at, put_at, kind_at, place_of, reserved, next_place, Room, target as Aim, Forwardable, forwarded_state, forwarded_reference, slots_from, started, Passable, passed, Openable, opened, fields_from, Writable, written, Copyable, copied_field, reserved_field, finished, transition, Ready, stepped, resting as Resting, Watched, fitting_field as FittingField};
+ghost use Rattle.semispace.specs.Words.{both_halves, word_at, put_at, kind_at, place_of, reserved, next_place, Room, target as Aim, Forwardable, forwarded_state, forwarded_reference, slots_from, started, Passable, passed, Openable, opened, fields_from, Writable, written, Copyable, copied_field, reserved_field, finished, transition, Ready, stepped, resting as Resting, Watched, fitting_field as FittingField};
 
 use super::Store;
 use crate::collector::{Collector, Target, Transition};
@@ -13,24 +13,21 @@ const KINDS: u32 = 16;
 
 impl<'m> Store<'m> {
     pub(super) fn word(&self, at: u32) -> u32
-        requires bounds { Bounds (view self.now) }
-        requires at_bound { at < both_halves (view self.now) }
+        requires { at < both_halves (view self.now) }
         ensures { result ≡ word_at (view self.now) at }
     {
         self.memory[at as usize]
     }
 
     pub(super) fn put(&mut self, at: u32, word: u32)
-        requires bounds { Bounds (view self.old) }
-        requires at_bound { at < both_halves (view self.old) }
+        requires { at < both_halves (view self.old) }
         ensures { view self.new ≡ put_at (view self.old) at word }
     {
         self.memory[at as usize] = word;
     }
 
     pub(super) fn kind_at(&self, at: u32) -> u32
-        requires bounds { Bounds (view self.now) }
-        requires at_bound { at + 1 < both_halves (view self.now) }
+        requires { at + 1 < both_halves (view self.now) }
         ensures { result ≡ kind_at (view self.now) at }
     {
         self.word(at + 1) % KINDS
@@ -38,8 +35,7 @@ impl<'m> Store<'m> {
 
     /// The reference of the place reserved for the record at `at`, or 0.
     pub(super) fn place_of(&self, at: u32) -> u32
-        requires bounds { Bounds (view self.now) }
-        requires at_bound { at + 1 < both_halves (view self.now) }
+        requires { at + 1 < both_halves (view self.now) }
         ensures { result ≡ place_of (view self.now) at }
     {
         self.word(at + 1) / KINDS
@@ -47,8 +43,7 @@ impl<'m> Store<'m> {
 
     /// What a reference leads to.
     pub(super) fn target(&self, reference: u32) -> Target
-        requires bounds { Bounds (view self.now) }
-        requires reference_bound { 0 < reference → reference < both_halves (view self.now) }
+        requires { 0 < reference → reference < both_halves (view self.now) }
         ensures { result ≡ Aim (view self.now) reference }
     {
         if reference == 0 || self.halves.leads_new(reference) {
@@ -62,8 +57,7 @@ impl<'m> Store<'m> {
 
     /// Takes the next words at the low end for the old record at `from`; gives the place's reference.
     pub(super) fn reserve(&mut self, from: u32) -> u32
-        requires bounds { Bounds (view self.old) }
-        requires room { Room (view self.old) from }
+        requires { Room (view self.old) from }
         ensures { (result ≡ next_place (view self.old) + 1) × (view self.new ≡ reserved (view self.old) from) }
     {
         let kind = self.kind_at(from);
@@ -77,8 +71,7 @@ impl<'m> Store<'m> {
 
     /// What a reference becomes when it is put anywhere in a cycle: the place, reserved if there is none.
     pub(super) fn forwarded(&mut self, reference: u32) -> u32
-        requires bounds { Bounds (view self.old) }
-        requires forwardable { Forwardable (view self.old) reference }
+        requires { Forwardable (view self.old) reference }
         ensures { (result ≡ forwarded_reference (view self.old) reference) × (view self.new ≡ forwarded_state (view self.old) reference) }
     {
         match self.target(reference) {
@@ -89,7 +82,6 @@ impl<'m> Store<'m> {
     }
 
     fn slots_from(&self, next: u32) -> Collector
-        requires { Bounds (view self.now) }
         ensures { result ≡ slots_from (view self.now) next }
     {
         if next < self.count {
@@ -102,7 +94,6 @@ impl<'m> Store<'m> {
     }
 
     fn start(&mut self)
-        requires { Bounds (view self.old) }
         ensures { view self.new ≡ started (view self.old) }
     {
         self.halves = self.halves.swapped();
@@ -110,8 +101,7 @@ impl<'m> Store<'m> {
     }
 
     fn pass_slot(&mut self, next: u32)
-        requires bounds { Bounds (view self.old) }
-        requires passable { Passable (view self.old) next }
+        requires { Passable (view self.old) next }
         ensures { view self.new ≡ passed (view self.old) next }
     {
         let held = self.slots[next as usize];
@@ -120,8 +110,7 @@ impl<'m> Store<'m> {
     }
 
     fn fields_from(&self, at: u32, from: u32, field: u32) -> Collector
-        requires bounds { Bounds (view self.now) }
-        requires at_bound { at + 1 < both_halves (view self.now) }
+        requires { at + 1 < both_halves (view self.now) }
         ensures { result ≡ fields_from (view self.now) at from field }
     {
         let fields = self.book.fields(self.kind_at(at));
@@ -135,8 +124,7 @@ impl<'m> Store<'m> {
     }
 
     fn open_place(&mut self, at: u32)
-        requires bounds { Bounds (view self.old) }
-        requires openable { Openable (view self.old) at }
+        requires { Openable (view self.old) at }
         ensures { view self.new ≡ opened (view self.old) at }
     {
         let from = self.word(at) - 1;
@@ -146,8 +134,7 @@ impl<'m> Store<'m> {
     }
 
     fn write_field(&mut self, at: u32, from: u32, field: u32, word: u32)
-        requires bounds { Bounds (view self.old) }
-        requires writable { Writable (view self.old) at field }
+        requires { Writable (view self.old) at field }
         ensures { view self.new ≡ written (view self.old) at from field word }
     {
         self.put(at + HEAD + field, word);
@@ -155,8 +142,7 @@ impl<'m> Store<'m> {
     }
 
     fn copy_field(&mut self, at: u32, from: u32, field: u32)
-        requires bounds { Bounds (view self.old) }
-        requires copyable { Copyable (view self.old) at from field }
+        requires { Copyable (view self.old) at from field }
         ensures { view self.new ≡ copied_field (view self.old) at from field }
     {
         let met = self.word(from + HEAD + field);
@@ -164,7 +150,6 @@ impl<'m> Store<'m> {
     }
 
     fn finish(&mut self)
-        requires { Bounds (view self.old) }
         ensures { view self.new ≡ finished (view self.old) }
     {
         self.spare = self.halves.high - self.halves.low;
@@ -172,7 +157,6 @@ impl<'m> Store<'m> {
     }
 
     fn resting(&self) -> bool
-        requires { Bounds (view self.now) }
         ensures { result ≡ Resting (view self.now).collector }
     {
         matches!(self.collector, Collector::Rest)
@@ -180,8 +164,7 @@ impl<'m> Store<'m> {
 
     /// The transition that fits.
     fn fitting(&self) -> Transition
-        requires bounds { Bounds (view self.now) }
-        requires watched { Watched (view self.now) (view self.now).collector }
+        requires { Watched (view self.now) (view self.now).collector }
         ensures { result ≡ transition (view self.now) }
     {
         match self.collector {
@@ -199,8 +182,7 @@ impl<'m> Store<'m> {
     }
 
     fn fitting_field(&self, at: u32, from: u32, field: u32) -> Transition
-        requires bounds { Bounds (view self.now) }
-        requires watched { Watched (view self.now) (Collector.Field at from field) }
+        requires { Watched (view self.now) (Collector.Field at from field) }
         ensures { result ≡ FittingField (view self.now) at from field }
     {
         if !self.book.refers(self.kind_at(from), field) {
@@ -220,8 +202,7 @@ impl<'m> Store<'m> {
 
     /// Makes one step; says whether it ended a cycle.
     pub fn step(&mut self) -> bool
-        requires bounds { Bounds (view self.old) }
-        requires ready { Ready (view self.old) }
+        requires { Ready (view self.old) }
         ensures { (view self.new ≡ stepped (view self.old)) × (result ≡ Resting (view self.new).collector) }
     {
         match self.fitting() {
@@ -243,8 +224,7 @@ impl<'m> Store<'m> {
     }
 
     fn reserve_field(&mut self, at: u32, from: u32, field: u32)
-        requires bounds { Bounds (view self.old) }
-        requires copyable { (Copyable (view self.old) at from field) × ((0 < word_at (view self.old) (from + 2 + field)) × (Room (view self.old) (word_at (view self.old) (from + 2 + field) - 1))) }
+        requires { (Copyable (view self.old) at from field) × ((0 < word_at (view self.old) (from + 2 + field)) × (Room (view self.old) (word_at (view self.old) (from + 2 + field) - 1))) }
         ensures { view self.new ≡ reserved_field (view self.old) at from field }
     {
         let met = self.word(from + HEAD + field);

@@ -5,17 +5,14 @@ use Rattle.semispace.specs.View.{view}
 use Rattle.semispace.specs.Graphs.{Whole}
 use Rattle.semispace.proofs.Stepping.{step_sound}
 use Rattle.semispace.proofs.Knowing.{step_known}
-use Rattle.semispace.proofs.Readying.{step_ready, ready_prop, bounds_prop}
+use Rattle.semispace.proofs.Readying.{step_ready, ready_prop}
 use Rattle.semispace.proofs.Reporting.{step_report}
 use Rattle.copying.proofs.heap.Copying.step.Goals as goal
 
 pub step-requires : goal.step-requires
 step-requires c =
     let s = view c.args.self.now.store in
-    record {
-      bounds = ∥∥₁_elim c.args.self.now.whole (bounds_prop s) (λ W. W.sound.bounds);
-      ready = ∥∥₁_elim c.args.self.now.whole (ready_prop s) (λ W. step_ready s W.sound);
-    }
+    ∥∥₁_elim c.args.self.now.whole (ready_prop s) (λ W. step_ready s W.sound)
 
 pub invariant_of-self : goal.invariant_of-self
 invariant_of-self c =

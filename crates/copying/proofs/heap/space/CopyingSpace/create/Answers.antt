@@ -5,7 +5,7 @@ use Rattle.semispace.proofs.Answering.{after_whole, after_called, make_room}
 use Rattle.copying.proofs.heap.space.CopyingSpace.create.Goals as goal
 
 pub make-requires : goal.make-requires
-make-requires c = make_room (view c.args.self.now.store) c.args.self.now.whole (subst (λ n. n ≤ 16) (sym c.args.self.now.store.book.counted) c.args.self.now.store.book.few) c.args.slot c.args.kind c.requires
+make-requires c = make_room (view c.args.self.now.store) c.args.self.now.whole c.args.slot c.args.kind c.requires
 
 pub invariant_of-self : goal.invariant_of-self
 invariant_of-self c = record { whole = after_whole (view c.args.self.now.store) c.args.self.now.whole (subst (λ n. n ≤ 16) (sym c.args.self.now.store.book.counted) c.args.self.now.store.book.few) (view c.make.new.self) (make c.args.slot c.args.kind) c.requires c.make.ensures.after }
