@@ -5,12 +5,11 @@ ghost use Rattle.semispace.specs.Graphs.{Whole};
 
 use semispace::store::Store;
 
-pub mod as_heap;
 pub mod idling;
 pub mod opening;
 mod space;
 
-/// A heap in two halves of lent words, and its collector.
+/// A heap in two halves of lent words, and its collector. Its calls are those of `Heap`, which it has as a `Space`.
 #[derive(Drop)]
 pub struct Copying<'m> {
     store: Store<'m>,

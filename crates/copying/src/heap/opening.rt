@@ -3,7 +3,7 @@
 ghost use Rattle.std.specs.Prelude.{◌≡◌, length, if◌then◌else◌};
 ghost use Rattle.kinds.specs.Books.{kinds_of};
 ghost use Rattle.graph.specs.Meaning.{Opened};
-ghost use Rattle.calls.specs.Tests.{tested};
+ghost use Rattle.graph.specs.Tests.{tested};
 ghost use Rattle.semispace.specs.View.{view};
 ghost use Rattle.semispace.specs.Collected.{meaning_of};
 ghost use Rattle.semispace.specs.Opening.{bad_opening, opened, opened_meaning, opening_refusal};

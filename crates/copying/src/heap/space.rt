@@ -4,12 +4,16 @@ ghost use Rattle.std.specs.Prelude.{refl};
 ghost use Rattle.semispace.specs.View.{view};
 ghost use Rattle.semispace.specs.Collected.{meaning_of};
 ghost use Rattle.semispace.specs.Callings.{Acted};
+ghost use Rattle.semispace.specs.Bounds.{numbers_bounded};
 
 use super::Copying;
-use calls::space::Space;
+use graph::layout::HEAD;
+use graph::space::Space;
 
 impl<'m> Space for Copying<'m> {
     ghost meaning = { λ h. meaning_of (view h.store) };
+
+    ghost bounded = { λ h. numbers_bounded (view h.store) h.whole };
 
     ghost acts = { λ h c r k. Acted (view h.store) c r (view k.store) };
 
@@ -24,7 +28,11 @@ impl<'m> Space for Copying<'m> {
     }
 
     fn charge(&self, kind: u32) -> u32 {
-        2 + self.store.fields_of(kind)
+        HEAD + self.store.fields_of(kind)
+    }
+
+    fn room(&self) -> u32 {
+        self.store.halves.size
     }
 
     fn left(&self) -> u32 {
@@ -32,7 +40,7 @@ impl<'m> Space for Copying<'m> {
     }
 
     fn spent(&self) -> bool {
-        self.store.next > 4_294_967_295
+        self.store.next > u32::MAX as u64
     }
 
     fn vacant(&self, slot: u32) -> bool {
@@ -51,7 +59,7 @@ impl<'m> Space for Copying<'m> {
         self.store.make(slot, kind)
     }
 
-    fn load(&mut self, slot: u32, field: u32) -> u32 {
+    fn load(&self, slot: u32, field: u32) -> u32 {
         self.store.read(slot, field)
     }
 
@@ -75,7 +83,7 @@ impl<'m> Space for Copying<'m> {
         self.store.empty(slot);
     }
 
-    fn describe(&mut self, slot: u32) -> (u32, u32) {
+    fn describe(&self, slot: u32) -> (u32, u32) {
         if self.store.slot(slot) == 0 {
             return (0, 0);
         }
