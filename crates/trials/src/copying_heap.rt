@@ -1,25 +1,19 @@
 //! The copying heap: a cycle with calls between its steps, and a keeper that makes without end.
 
+use crate::books::book_of;
 use copying::heap::Copying;
 use graph::collected::Collected;
 use graph::heap::Heap;
 use keeper::keeper::Keeper;
 use keeper::together::make_and_settle;
-use kinds::book::{Book, SealedBook};
 use kinds::refusal::Refusal;
 use pacing::by_word::ByWord;
 use std::process::Abort;
 use std::test::Fail;
 use tally::tallied::Tally;
 
-/// A book of one kind: field 0 is a reference, field 1 a word, so a charge of 4.
-fn links() -> Result<SealedBook, Refusal> {
-    let mut book = Book::new();
-    match book.add(&[2, 0, 1]) {
-        Ok(_) => Ok(book.seal()),
-        Err(why) => Err(why),
-    }
-}
+/// A kind of two fields: field 0 is a reference, field 1 a word, so a charge of 4.
+const LINK: [u32; 3] = [2, 0, 1];
 
 /// Two records, the first linked to the second, which no slot holds any more.
 fn make_two<H: Heap>(heap: &mut H) -> Result<u32, Refusal> {
@@ -35,7 +29,7 @@ fn make_two<H: Heap>(heap: &mut H) -> Result<u32, Refusal> {
 #[test]
 fn writes_between_steps_are_kept(rt: HostRuntime) -> Result<(), Fail> {
     let mut words = [0u32; 41];
-    let mut heap = Copying::open(&mut words, 3, links()?, 100);
+    let mut heap = Copying::open(&mut words, 3, book_of(&LINK)?, 100);
     assert_eq!(rt; heap.opening(), Ok(()));
     assert_eq!(rt; make_two(&mut heap), Ok(12));
     assert_eq!(rt; heap.idle(6), (6, false));
@@ -55,7 +49,7 @@ fn writes_between_steps_are_kept(rt: HostRuntime) -> Result<(), Fail> {
 #[test]
 fn cycle_frees_what_is_dropped(rt: HostRuntime) -> Result<(), Fail> {
     let mut words = [0u32; 40];
-    let mut heap = Copying::open(&mut words, 1, links()?, 1);
+    let mut heap = Copying::open(&mut words, 1, book_of(&LINK)?, 1);
     assert_eq!(rt; heap.make(0, 0), Ok(1));
     assert_eq!(rt; heap.link(0, 0, 0), Ok(()));
     assert_eq!(rt; heap.drop(0), Ok(()));
@@ -70,10 +64,8 @@ fn cycle_frees_what_is_dropped(rt: HostRuntime) -> Result<(), Fail> {
 fn make_without_end<H: Collected + Drop>(rt: &impl Abort, heap: H) -> Result<(), Fail> {
     let mut keeper = Keeper::new(Tally::new(heap), ByWord::new(3));
     for number in 1..60 {
-        match make_and_settle(&mut keeper, 0, 0) {
-            Ok((made, _)) => assert_eq!(rt; made, number),
-            Err(why) => return Err(Fail::from(why)),
-        }
+        let (made, _) = make_and_settle(&mut keeper, 0, 0)?;
+        assert_eq!(rt; made, number);
     }
     assert_eq!(rt; keeper.heap().makes(), 59);
     Ok(())
@@ -82,5 +74,5 @@ fn make_without_end<H: Collected + Drop>(rt: &impl Abort, heap: H) -> Result<(),
 #[test]
 fn keeper_never_runs_out_of_words(rt: HostRuntime) -> Result<(), Fail> {
     let mut words = [0u32; 80];
-    make_without_end(&rt, Copying::open(&mut words, 1, links()?, 1))
+    make_without_end(&rt, Copying::open(&mut words, 1, book_of(&LINK)?, 1))
 }

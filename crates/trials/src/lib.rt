@@ -3,6 +3,8 @@
 #![tactic(auto)]
 
 #[cfg(test)]
+mod books;
+#[cfg(test)]
 mod copying_heap;
 pub mod hollow;
 #[cfg(test)]

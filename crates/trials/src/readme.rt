@@ -8,10 +8,8 @@ use straight::heap::Straight;
 /// A book of one kind, which gets the number 0: three fields, of which field 2 is a reference.
 fn axles() -> Result<SealedBook, Refusal> {
     let mut book = Book::new();
-    match book.add(&[3, 2, 1]) {
-        Ok(_) => Ok(book.seal()),
-        Err(why) => Err(why),
-    }
+    book.add(&[3, 2, 1])?;
+    Ok(book.seal())
 }
 
 /// Links a second record to a first, and reads a word of the first through the link.

@@ -25,11 +25,18 @@ const CURSOR: u32 = 2;
 /// The most records that the task walks back.
 const FAR: u32 = 16;
 
+/// An axle at a bearing.
+#[derive(Clone, Copy)]
+pub(crate) struct Axle {
+    pub(crate) span: u32,
+    pub(crate) strain: u32,
+}
+
 /// Makes a record, fills it, links it to the newest one, and holds it as the newest.
-fn note<H: Heap>(heap: &mut H, span: u32, strain: u32) -> Result<u32, Refusal> {
+fn note<H: Heap>(heap: &mut H, axle: Axle) -> Result<u32, Refusal> {
     let number = heap.make(FILLED, AXLE)?;
-    heap.write(FILLED, SPAN, span)?;
-    heap.write(FILLED, STRAIN, strain)?;
+    heap.write(FILLED, SPAN, axle.span)?;
+    heap.write(FILLED, STRAIN, axle.strain)?;
     heap.link(FILLED, BEFORE, NEWEST)?;
     heap.hold(FILLED, NEWEST)?;
     heap.drop(FILLED)?;
@@ -37,20 +44,15 @@ fn note<H: Heap>(heap: &mut H, span: u32, strain: u32) -> Result<u32, Refusal> {
 }
 
 /// A driver's part: one axle passes.
-pub(crate) fn drive<H: Heap>(
-    rt: &HostRuntime,
-    heap: &mut H,
-    span: u32,
-    strain: u32,
-) -> io::Result<()> {
-    match note(heap, span, strain) {
+pub(crate) fn drive<H: Heap>(rt: &HostRuntime, heap: &mut H, axle: Axle) -> io::Result<()> {
+    match note(heap, axle) {
         Ok(number) => println!(rt; "an axle passes: record {number}, spare {}", heap.spare()),
         Err(why) => println!(rt; "an axle passes: no {}", why.number()),
     }
 }
 
-/// What the cursor's record says: its number, span and strain; no record at the end of the links.
-fn seen<H: Heap>(heap: &mut H) -> Result<Option<(u32, u32, u32)>, Refusal> {
+/// The number of the cursor's record, and its axle; no record at the end of the links.
+fn seen<H: Heap>(heap: &mut H) -> Result<Option<(u32, Axle)>, Refusal> {
     let (number, _) = heap.look(CURSOR)?;
     if number == 0 {
         return Ok(None);
@@ -58,7 +60,7 @@ fn seen<H: Heap>(heap: &mut H) -> Result<Option<(u32, u32, u32)>, Refusal> {
     let span = heap.read(CURSOR, SPAN)?;
     let strain = heap.read(CURSOR, STRAIN)?;
     heap.follow(CURSOR, BEFORE, CURSOR)?;
-    Ok(Some((number, span, strain)))
+    Ok(Some((number, Axle { span, strain })))
 }
 
 /// A task's part: it follows the links back from the newest record.
@@ -67,8 +69,9 @@ pub(crate) fn walk_back<H: Heap>(rt: &HostRuntime, heap: &mut H) -> io::Result<(
     let _ = heap.hold(NEWEST, CURSOR);
     for _ in 0..FAR {
         match seen(heap) {
-            Ok(Some((number, span, strain))) => println!(rt;
-                "record {number}: span {span}, strain {strain}"
+            Ok(Some((number, axle))) => println!(rt;
+                "record {number}: span {}, strain {}",
+                axle.span, axle.strain
             )?,
             Ok(None) => return println!(rt; "the first record is reached"),
             Err(why) => return println!(rt; "no {}", why.number()),

@@ -5,19 +5,37 @@
 mod axles;
 mod refused;
 
+use axles::Axle;
 use graph::heap::Heap;
 use kinds::book::Book;
 use straight::heap::Straight;
 
-/// Axles at a bearing: span and strain.
-const CONVOY: [(u32, u32); 4] = [(3, 120), (3, 118), (4, 97), (2, 141)];
+/// The axles that pass.
+const CONVOY: [Axle; 4] = [
+    Axle {
+        span: 3,
+        strain: 120,
+    },
+    Axle {
+        span: 3,
+        strain: 118,
+    },
+    Axle {
+        span: 4,
+        strain: 97,
+    },
+    Axle {
+        span: 2,
+        strain: 141,
+    },
+];
 
 /// Tells the story on any heap.
 fn tell<H: Heap + Drop>(rt: &HostRuntime, mut heap: H) -> anyhow::Result<()> {
     let words = heap.capacity();
     println!(rt; "a heap of {words} words, spare {}", heap.spare())?;
-    for (span, strain) in CONVOY {
-        axles::drive(rt, &mut heap, span, strain)?;
+    for axle in CONVOY {
+        axles::drive(rt, &mut heap, axle)?;
     }
     axles::walk_back(rt, &mut heap)?;
     refused::show(rt, &mut heap)?;
