@@ -1,5 +1,5 @@
 -- The words and registers of a copying heap, the transitions, and where a field is.
-use Rattle.std.specs.Prelude.{◌≡◌, ℕ, zero, suc, ◌+◌, ◌-◌, ◌*◌, ◌/◌, ◌%◌, ◌<◌, ◌≤◌, Bool, true, false, cond, ◌&&◌, ◌||◌, List, length, ◌==◌, nat_le, nat_lt, slice_index, slice_index_or, slice_set}
+use Rattle.std.specs.Prelude.{◌≡◌, ℕ, zero, suc, ◌+◌, ◌-◌, ◌*◌, ◌/◌, ◌%◌, ◌<◌, ◌≤◌, Bool, true, false, cond, Option, Some, None, ◌&&◌, ◌||◌, List, length, ◌==◌, nat_le, nat_lt, slice_index, slice_index_or, slice_set}
 use Rattle.kinds.specs.Shapes.{Shape, no_shape, within}
 use Rattle.graph.specs.Graph.{size}
 use Rattle.semispace.specs.declared.halves.Halves.{Halves}
@@ -101,6 +101,10 @@ reserved s from = set_halves (set_memory s (noted s.memory (next_place s) from))
 abbrev pub placed_at : ℕ → Target
 placed_at zero = Unplaced
 placed_at (suc n) = Placed (suc n)
+
+-- The reference of a place as it is met: none where the number is 0.
+abbrev pub place_met : ℕ → Option ℕ
+place_met n = cond (n == 0) None (Some n)
 
 abbrev pub target : State → ℕ → Target
 target s r = cond (r == 0 || leads_new s.halves r) Settled (placed_at (place_of s (r - 1)))

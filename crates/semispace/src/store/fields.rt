@@ -6,8 +6,7 @@ ghost use Rattle.semispace.specs.Words.{both_halves, word_at, put_at, front as F
 
 use super::Store;
 use crate::collector::Collector;
-
-const HEAD: u32 = 2;
+use graph::layout::HEAD;
 
 impl<'m> Store<'m> {
     /// Where the places begin that have not been closed, and how many fields of the first have been copied.
@@ -16,13 +15,9 @@ impl<'m> Store<'m> {
     {
         match self.collector {
             Collector::Rest => self.halves.base + self.halves.size,
-            Collector::Slots { next: _ } => self.halves.base,
+            Collector::Slots { .. } => self.halves.base,
             Collector::Scan { at } => at,
-            Collector::Field {
-                at,
-                from: _,
-                field: _,
-            } => at,
+            Collector::Field { at, .. } => at,
         }
     }
 
@@ -30,11 +25,7 @@ impl<'m> Store<'m> {
         ensures { result ≡ Filled self.now.collector }
     {
         match self.collector {
-            Collector::Field {
-                at: _,
-                from: _,
-                field,
-            } => field,
+            Collector::Field { field, .. } => field,
             _ => 0,
         }
     }
@@ -54,11 +45,7 @@ impl<'m> Store<'m> {
         ensures { result ≡ Source (view self.now).memory self.now.collector at }
     {
         match self.collector {
-            Collector::Field {
-                at: scan,
-                from,
-                field: _,
-            } if at == scan => from,
+            Collector::Field { at: scan, from, .. } if at == scan => from,
             _ => self.word(at) - 1,
         }
     }
@@ -76,12 +63,8 @@ impl<'m> Store<'m> {
             };
         }
         match self.place_of(at) {
-            0 => at,
-            place => if self.owns(place - 1, i) {
-                place - 1
-            } else {
-                at
-            },
+            Some(place) if self.owns(place - 1, i) => place - 1,
+            _ => at,
         }
     }
 

@@ -2,14 +2,15 @@
 
 ghost use Rattle.std.specs.Prelude.{◌≡◌, ◌+◌, ◌-◌, ◌*◌, ◌/◌, ◌%◌, ◌<◌};
 ghost use Rattle.semispace.specs.View.{view};
-ghost use Rattle.semispace.specs.Words.{both_halves, word_at, put_at, kind_at, place_of, reserved, next_place, Room, target as Aim, Forwardable, forwarded_state, forwarded_reference, slots_from, started, Passable, passed, Openable, opened, fields_from, Writable, written, Copyable, copied_field, reserved_field, finished, transition, Ready, stepped, resting as Resting, Watched, fitting_field as FittingField};
+ghost use Rattle.semispace.specs.Words.{both_halves, word_at, put_at, kind_at, place_of, place_met, reserved, next_place, Room, target as Aim, Forwardable, forwarded_state, forwarded_reference, slots_from, started, Passable, passed, Openable, opened, fields_from, Writable, written, Copyable, copied_field, reserved_field, finished, transition, Ready, stepped, resting as Resting, Watched, fitting_field as FittingField};
 
 use super::Store;
 use crate::collector::{Collector, Target, Transition};
+use graph::layout::HEAD;
+use kinds::book::MAX_KINDS;
 
-const HEAD: u32 = 2;
-
-const KINDS: u32 = 16;
+/// A record's second word is its kind and this many times the reference of its place.
+const KINDS: u32 = MAX_KINDS as u32;
 
 impl<'m> Store<'m> {
     pub(super) fn word(&self, at: u32) -> u32
@@ -33,12 +34,15 @@ impl<'m> Store<'m> {
         self.word(at + 1) % KINDS
     }
 
-    /// The reference of the place reserved for the record at `at`, or 0.
-    pub(super) fn place_of(&self, at: u32) -> u32
+    /// The reference of the place reserved for the record at `at`, if one is.
+    pub(super) fn place_of(&self, at: u32) -> Option<u32>
         requires { at + 1 < both_halves (view self.now) }
-        ensures { result ≡ place_of (view self.now) at }
+        ensures { result ≡ place_met (place_of (view self.now) at) }
     {
-        self.word(at + 1) / KINDS
+        match self.word(at + 1) / KINDS {
+            0 => None,
+            place => Some(place),
+        }
     }
 
     /// What a reference leads to.
@@ -50,8 +54,8 @@ impl<'m> Store<'m> {
             return Target::Settled;
         }
         match self.place_of(reference - 1) {
-            0 => Target::Unplaced,
-            place => Target::Placed { place },
+            Some(place) => Target::Placed { place },
+            None => Target::Unplaced,
         }
     }
 
@@ -84,7 +88,7 @@ impl<'m> Store<'m> {
     fn slots_from(&self, next: u32) -> Collector
         ensures { result ≡ slots_from (view self.now) next }
     {
-        if next < self.count {
+        if next < self.slots.count() {
             Collector::Slots { next }
         } else {
             Collector::Scan {
@@ -104,8 +108,9 @@ impl<'m> Store<'m> {
         requires { Passable (view self.old) next }
         ensures { view self.new ≡ passed (view self.old) next }
     {
-        let held = self.slots[next as usize];
-        self.slots[next as usize] = self.forwarded(held);
+        let held = self.slots.get(next);
+        let put = self.forwarded(held);
+        self.slots.set(next, put);
         self.collector = self.slots_from(next + 1);
     }
 
