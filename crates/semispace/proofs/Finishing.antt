@@ -168,7 +168,7 @@ module _ (s : State) (S : Sound s) (K : Known s) where
       by_bool (ltb at (next_place s))
       (λ e. let q : fitting s (Scan at) ≡ Open at = rw e in subst P (sym q) (λ T. graph_like s (opened s at) S T (rw is) (opened_like s S at is e)))
       (λ e. let q : fitting s (Scan at) ≡ Done = rw e in subst P (sym q) (λ T. graph_done s S K at is e))
-  graph_at (Field at from i) is = λ T. graph_like s (made s (fitting_field s at from i)) S T (rw is) (field_step_like s S (known_apart s K (rw is)) at from i is)
+  graph_at (Field c) is = λ T. graph_like s (made s (fitting_field s c)) S T (rw is) (field_step_like s S (known_apart s K (rw is)) c.at c.from c.field is)
 
   pub step_graph : graph_of (stepped s) ≡ graph_of s
   step_graph = graph_at s.collector refl (step_sound s S)

@@ -42,10 +42,10 @@ module _ (s : State) (S : Sound s) (going : resting s.collector ≡ false) where
   source_homed x i Rest k a bk ow = let b = bk x k (own_unopened s.halves Rest x i ow (λ e. absurd (false≢true e))) in (b.1, b.2)
   source_homed x i (Slots n) k a bk ow = let b = bk x k (own_unopened s.halves (Slots n) x i ow (λ e. absurd (false≢true e))) in (b.1, b.2)
   source_homed x i (Scan at) k a bk ow = let b = bk x k (own_unopened s.halves (Scan at) x i ow (λ e. absurd (false≢true e))) in (b.1, b.2)
-  source_homed x i (Field at from j) k a bk ow =
-      by_bool (eqb x at)
-      (λ e. rw e (a.1, a.2 ∙ ap (λ w. w + 1) (sym (eqb-true x at e))))
-      (λ e. let b = bk x k (own_unopened s.halves (Field at from j) x i ow (λ z. eqb-false x at e)) in rw e (b.1, b.2))
+  source_homed x i (Field c) k a bk ow =
+      by_bool (eqb x c.at)
+      (λ e. rw e (a.1, a.2 ∙ ap (λ w. w + 1) (sym (eqb-true x c.at e))))
+      (λ e. let b = bk x k (own_unopened s.halves (Field c) x i ow (λ z. eqb-false x c.at e)) in rw e (b.1, b.2))
 
   pub place_unless_own : (x i : ℕ) → mem x (the_news s) ≡ true → own s.halves s.collector x i ≡ false → mem x (the_places s) ≡ true
   place_unless_own x i k u =

@@ -221,7 +221,7 @@ module _ (s : State) (S : Sound s) (K : Known s) (k : ℕ) (known : k < 16) (kk 
   left_same Rest h = refl
   left_same (Slots n) h = refl
   left_same (Scan a) h = refl
-  left_same (Field a from i) h = let e : size_of t a ≡ size_of s a = size_m s S k known fits a (mem_left a (the_news s) (the_olds s) (mem_left a (the_places s) (the_mades s) h.0)) in ap (λ n. 0 + (n - 2 - i)) e
+  left_same (Field c) h = let e : size_of t c.at ≡ size_of s c.at = size_m s S k known fits c.at (mem_left c.at (the_news s) (the_olds s) (mem_left c.at (the_places s) (the_mades s) h.0)) in ap (λ n. 0 + (n - 2 - c.field)) e
 
   pub due_made : due t ≤ due s
   due_made =

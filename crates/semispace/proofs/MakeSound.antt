@@ -104,7 +104,7 @@ module _ (s : State) (S : Sound s) (k : ℕ) (known : k < 16) (fits : 2 + fields
   at_m Rest a = a
   at_m (Slots n) a = a
   at_m (Scan p) a = rw places_m a
-  at_m (Field p from n) a = (rw places_m a.0, rw olds_m a.1, ap (λ v. v / 16) (tag_m from (of_olds from a.1)) ∙ a.2, rw (size_m p (of_places p a.0)) a.3)
+  at_m (Field c) a = (rw places_m a.0, rw olds_m a.1, ap (λ v. v / 16) (tag_m c.from (of_olds c.from a.1)) ∙ a.2, rw (size_m c.at (of_places c.at a.0)) a.3)
 
   place_new : (q : ℕ) → mem q (the_places s) ≡ true → mem q (the_news s) ≡ true
   place_new q m = mem_left q (the_places s) (the_mades s) m

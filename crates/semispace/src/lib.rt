@@ -3,6 +3,7 @@
 #![tactic(auto)]
 
 mod collector;
+mod cursor;
 mod halves;
 pub mod store;
 

@@ -17,7 +17,7 @@ impl<'m> Store<'m> {
             Collector::Rest => self.halves.base + self.halves.size,
             Collector::Slots { .. } => self.halves.base,
             Collector::Scan { at } => at,
-            Collector::Field { at, .. } => at,
+            Collector::Field { cursor } => cursor.at,
         }
     }
 
@@ -25,7 +25,7 @@ impl<'m> Store<'m> {
         ensures { result ≡ Filled self.now.collector }
     {
         match self.collector {
-            Collector::Field { field, .. } => field,
+            Collector::Field { cursor } => cursor.field,
             _ => 0,
         }
     }
@@ -45,7 +45,7 @@ impl<'m> Store<'m> {
         ensures { result ≡ Source (view self.now).memory self.now.collector at }
     {
         match self.collector {
-            Collector::Field { at: scan, from, .. } if at == scan => from,
+            Collector::Field { cursor } if at == cursor.at => cursor.from,
             _ => self.word(at) - 1,
         }
     }

@@ -6,6 +6,7 @@ ghost use Rattle.semispace.specs.Words.{both_halves, word_at, put_at, kind_at, p
 
 use super::Store;
 use crate::collector::{Collector, Target, Transition};
+use crate::cursor::Cursor;
 use graph::layout::HEAD;
 use kinds::book::MAX_KINDS;
 
@@ -114,16 +115,16 @@ impl<'m> Store<'m> {
         self.collector = self.slots_from(next + 1);
     }
 
-    fn fields_from(&self, at: u32, from: u32, field: u32) -> Collector
-        requires { at + 1 < both_halves (view self.now) }
-        ensures { result ≡ fields_from (view self.now) at from field }
+    fn fields_from(&self, cursor: Cursor) -> Collector
+        requires { cursor.at + 1 < both_halves (view self.now) }
+        ensures { result ≡ fields_from (view self.now) cursor }
     {
-        let fields = self.book.fields(self.kind_at(at));
-        if field < fields {
-            Collector::Field { at, from, field }
+        let fields = self.book.fields(self.kind_at(cursor.at));
+        if cursor.field < fields {
+            Collector::Field { cursor }
         } else {
             Collector::Scan {
-                at: at + HEAD + fields,
+                at: cursor.at + HEAD + fields,
             }
         }
     }
@@ -135,23 +136,31 @@ impl<'m> Store<'m> {
         let from = self.word(at) - 1;
         let number = self.word(from);
         self.put(at, number);
-        self.collector = self.fields_from(at, from, 0);
+        self.collector = self.fields_from(Cursor { at, from, field: 0 });
     }
 
-    fn write_field(&mut self, at: u32, from: u32, field: u32, word: u32)
-        requires { Writable (view self.old) at field }
-        ensures { view self.new ≡ written (view self.old) at from field word }
+    /// The word of the cursor's field in the old copy.
+    fn met(&self, cursor: Cursor) -> u32
+        requires { Writable (view self.now) cursor.from cursor.field }
+        ensures { result ≡ word_at (view self.now) (cursor.from + 2 + cursor.field) }
     {
-        self.put(at + HEAD + field, word);
-        self.collector = self.fields_from(at, from, field + 1);
+        self.word(cursor.from + HEAD + cursor.field)
     }
 
-    fn copy_field(&mut self, at: u32, from: u32, field: u32)
-        requires { Copyable (view self.old) at from field }
-        ensures { view self.new ≡ copied_field (view self.old) at from field }
+    fn write_field(&mut self, cursor: Cursor, word: u32)
+        requires { Writable (view self.old) cursor.at cursor.field }
+        ensures { view self.new ≡ written (view self.old) cursor word }
     {
-        let met = self.word(from + HEAD + field);
-        self.write_field(at, from, field, met);
+        self.put(cursor.at + HEAD + cursor.field, word);
+        self.collector = self.fields_from(cursor.next());
+    }
+
+    fn copy_field(&mut self, cursor: Cursor)
+        requires { Copyable (view self.old) cursor }
+        ensures { view self.new ≡ copied_field (view self.old) cursor }
+    {
+        let met = self.met(cursor);
+        self.write_field(cursor, met);
     }
 
     fn finish(&mut self)
@@ -168,6 +177,7 @@ impl<'m> Store<'m> {
     }
 
     /// The transition that fits.
+    // Kept: the collector's state, matched in place with the field met, chooses the transition; that is a rule of the project.
     fn fitting(&self) -> Transition
         requires { Watched (view self.now) (view self.now).collector }
         ensures { result ≡ transition (view self.now) }
@@ -182,30 +192,26 @@ impl<'m> Store<'m> {
                     Transition::Done
                 }
             }
-            Collector::Field { at, from, field } => self.fitting_field(at, from, field),
+            Collector::Field { cursor } => self.fitting_field(cursor),
         }
     }
 
-    fn fitting_field(&self, at: u32, from: u32, field: u32) -> Transition
-        requires { Watched (view self.now) (Collector.Field at from field) }
-        ensures { result ≡ FittingField (view self.now) at from field }
+    fn fitting_field(&self, cursor: Cursor) -> Transition
+        requires { Watched (view self.now) (Collector.Field cursor) }
+        ensures { result ≡ FittingField (view self.now) cursor }
     {
-        if !self.book.refers(self.kind_at(from), field) {
-            return Transition::Word { at, from, field };
+        if !self.book.refers(self.kind_at(cursor.from), cursor.field) {
+            return Transition::Word { cursor };
         }
-        match self.target(self.word(from + HEAD + field)) {
-            Target::Settled => Transition::Keep { at, from, field },
-            Target::Placed { place } => Transition::Forward {
-                at,
-                from,
-                field,
-                place,
-            },
-            Target::Unplaced => Transition::Reserve { at, from, field },
+        match self.target(self.met(cursor)) {
+            Target::Settled => Transition::Keep { cursor },
+            Target::Placed { place } => Transition::Forward { cursor, place },
+            Target::Unplaced => Transition::Reserve { cursor },
         }
     }
 
     /// Makes one step; says whether it ended a cycle.
+    // Kept: a match on the eight transitions runs the one that was chosen; that is a rule of the project.
     pub fn step(&mut self) -> bool
         requires { Ready (view self.old) }
         ensures { (view self.new ≡ stepped (view self.old)) × (result ≡ Resting (view self.new).collector) }
@@ -214,26 +220,23 @@ impl<'m> Store<'m> {
             Transition::Start => self.start(),
             Transition::Slot { next } => self.pass_slot(next),
             Transition::Open { at } => self.open_place(at),
-            Transition::Word { at, from, field } => self.copy_field(at, from, field),
-            Transition::Keep { at, from, field } => self.copy_field(at, from, field),
-            Transition::Forward {
-                at,
-                from,
-                field,
-                place,
-            } => self.write_field(at, from, field, place),
-            Transition::Reserve { at, from, field } => self.reserve_field(at, from, field),
+            Transition::Word { cursor } => self.copy_field(cursor),
+            Transition::Keep { cursor } => self.copy_field(cursor),
+            Transition::Forward { cursor, place } => self.write_field(cursor, place),
+            Transition::Reserve { cursor } => self.reserve_field(cursor),
             Transition::Done => self.finish(),
         }
         self.resting()
     }
 
-    fn reserve_field(&mut self, at: u32, from: u32, field: u32)
-        requires { (Copyable (view self.old) at from field) × ((0 < word_at (view self.old) (from + 2 + field)) × (Room (view self.old) (word_at (view self.old) (from + 2 + field) - 1))) }
-        ensures { view self.new ≡ reserved_field (view self.old) at from field }
+    fn reserve_field(&mut self, cursor: Cursor)
+        requires copyable { Copyable (view self.old) cursor }
+        requires some { 0 < word_at (view self.old) (cursor.from + 2 + cursor.field) }
+        requires room { Room (view self.old) (word_at (view self.old) (cursor.from + 2 + cursor.field) - 1) }
+        ensures { view self.new ≡ reserved_field (view self.old) cursor }
     {
-        let met = self.word(from + HEAD + field);
+        let met = self.met(cursor);
         let place = self.reserve(met - 1);
-        self.write_field(at, from, field, place);
+        self.write_field(cursor, place);
     }
 }
