@@ -41,7 +41,8 @@ impl<'m> Store<'m> {
 
     /// The old record of a place.
     fn source(&self, at: u32) -> u32
-        requires { (at < both_halves (view self.now)) × (0 < word_at (view self.now) at) }
+        requires inside { at < both_halves (view self.now) }
+        requires some { 0 < word_at (view self.now) at }
         ensures { result ≡ Source (view self.now).memory self.now.collector at }
     {
         match self.collector {
@@ -94,7 +95,8 @@ impl<'m> Store<'m> {
     /// Puts a record of the kind at the high end; gives its address.
     pub(super) fn place_record(&mut self, kind: u32, number: u32) -> u32
         requires { self.old.halves.low + (2 + fields_of (view self.old).book kind) ≤ self.old.halves.high }
-        ensures { (result ≡ made_at (view self.old) kind) × (view self.new ≡ made_record (view self.old) kind number) }
+        ensures at { result ≡ made_at (view self.old) kind }
+        ensures after { view self.new ≡ made_record (view self.old) kind number }
     {
         let fields = self.book.fields(kind);
         self.halves = self.halves.lowered(HEAD + fields);

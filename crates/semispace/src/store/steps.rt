@@ -63,7 +63,8 @@ impl<'m> Store<'m> {
     /// Takes the next words at the low end for the old record at `from`; gives the place's reference.
     pub(super) fn reserve(&mut self, from: u32) -> u32
         requires { Room (view self.old) from }
-        ensures { (result ≡ next_place (view self.old) + 1) × (view self.new ≡ reserved (view self.old) from) }
+        ensures place { result ≡ next_place (view self.old) + 1 }
+        ensures after { view self.new ≡ reserved (view self.old) from }
     {
         let kind = self.kind_at(from);
         let place = self.halves.base + self.halves.low;
@@ -77,7 +78,8 @@ impl<'m> Store<'m> {
     /// What a reference becomes when it is put anywhere in a cycle: the place, reserved if there is none.
     pub(super) fn forwarded(&mut self, reference: u32) -> u32
         requires { Forwardable (view self.old) reference }
-        ensures { (result ≡ forwarded_reference (view self.old) reference) × (view self.new ≡ forwarded_state (view self.old) reference) }
+        ensures reference { result ≡ forwarded_reference (view self.old) reference }
+        ensures after { view self.new ≡ forwarded_state (view self.old) reference }
     {
         match self.target(reference) {
             Target::Settled => reference,
@@ -214,7 +216,8 @@ impl<'m> Store<'m> {
     // Kept: a match on the eight transitions runs the one that was chosen; that is a rule of the project.
     pub fn step(&mut self) -> bool
         requires { Ready (view self.old) }
-        ensures { (view self.new ≡ stepped (view self.old)) × (result ≡ Resting (view self.new).collector) }
+        ensures after { view self.new ≡ stepped (view self.old) }
+        ensures ended { result ≡ Resting (view self.new).collector }
     {
         match self.fitting() {
             Transition::Start => self.start(),
