@@ -6,7 +6,6 @@ pub mod Homes
 pub mod Reaching
 pub mod Sourcing
 pub mod Wholes
-pub mod Numbering
 pub mod Putting
 pub mod FieldSound
 pub mod FieldNext
