@@ -15,7 +15,6 @@ pub mod OpenSound
 pub mod Stepping
 pub mod Readying
 pub mod Idling
-pub mod Clearing
 pub mod Opening
 pub mod Opened
 pub mod Like

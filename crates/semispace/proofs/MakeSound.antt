@@ -17,7 +17,7 @@ use Rattle.semispace.proofs.Putting.{all}
 use Rattle.semispace.proofs.SlotSound.{good_none}
 use Rattle.semispace.proofs.Like.{the_mades, objs_all}
 use Rattle.semispace.proofs.Knowing.{objects_cycle, objects_rest}
-use Rattle.semispace.proofs.Clearing.{zeros_length}
+use Rattle.graph.proofs.Clearing.{cleared_length}
 use Rattle.semispace.proofs.Making.{make_room, made_number, made_tag, made_field, made_word, made_size, size_here, lows_made, highs_made, places_made, mades_made, laid_made}
 use Rattle.semispace.proofs.Sourcing.{source_of, has_from}
 
@@ -140,7 +140,7 @@ module _ (s : State) (S : Sound s) (k : ℕ) (known : k < 16) (fits : 2 + fields
 
   pub make_sound : Sound t
   make_sound =
-      let len_same : length t.memory ≡ length s.memory = zeros_length (fresh s.memory at s.next k) (at + 2) (fields_of s.book k) ∙ (length-set (set s.memory at s.next) (at + 1) k ∙ length-set s.memory at s.next) in
+      let len_same : length t.memory ≡ length s.memory = cleared_length (fresh s.memory at s.next k) (at + 2) (fields_of s.book k) ∙ (length-set (set s.memory at s.next) (at + 1) k ∙ length-set s.memory at s.next) in
       let q = room in
       record {
         bounds = omega (arith, S.bounds);

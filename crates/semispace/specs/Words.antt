@@ -2,6 +2,7 @@
 use Rattle.std.specs.Prelude.{◌≡◌, ℕ, zero, suc, ◌+◌, ◌-◌, ◌*◌, ◌/◌, ◌%◌, ◌<◌, ◌≤◌, Bool, true, false, cond, Option, Some, None, ◌&&◌, ◌||◌, List, length, ◌==◌, nat_le, nat_lt, slice_index, slice_index_or, slice_set}
 use Rattle.kinds.specs.Shapes.{Shape, no_shape, within}
 use Rattle.graph.specs.Graph.{size}
+use Rattle.graph.specs.Clearing.{cleared}
 use Rattle.semispace.specs.declared.halves.Halves.{Halves}
 use Rattle.semispace.specs.declared.cursor.Cursor.{Cursor}
 use Rattle.semispace.specs.declared.collector.Collector.{Collector}
@@ -286,11 +287,6 @@ unfoldable pub idle_state : ℕ → State → State
 idle_state zero s = s
 idle_state (suc n) s = cond (resting (stepped s).collector) (stepped s) (idle_state n (stepped s))
 
--- Memory with n words from a on empty.
-unfoldable pub zeros : List ℕ → ℕ → ℕ → List ℕ
-zeros m a zero = m
-zeros m a (suc n) = slice_set (zeros m a n) (a + n) 0
-
 abbrev pub made_at : State → ℕ → ℕ
 made_at s k = s.halves.base + (s.halves.high - (2 + fields_of s.book k))
 
@@ -301,5 +297,5 @@ fresh m at number k = slice_set (slice_set m at number) (at + 1) k
 abbrev pub made_record : State → ℕ → ℕ → State
 made_record s k number =
     set_halves
-    (set_memory s (zeros (fresh s.memory (made_at s k) number k) (made_at s k + 2) (fields_of s.book k)))
+    (set_memory s (cleared (fresh s.memory (made_at s k) number k) (made_at s k + 2) (fields_of s.book k)))
     (lowered s.halves (2 + fields_of s.book k))

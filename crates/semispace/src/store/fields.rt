@@ -1,8 +1,9 @@
 //! Where the fields of a half-moved record are, and the words of a new record.
 
 ghost use Rattle.std.specs.Prelude.{◌≡◌, ◌+◌, ◌-◌, ◌<◌, ◌≤◌};
+ghost use Rattle.graph.specs.Clearing.{cleared};
 ghost use Rattle.semispace.specs.View.{view};
-ghost use Rattle.semispace.specs.Words.{both_halves, word_at, put_at, front as Front, filled as Filled, own as Own, source as Source, home as Home, Found, zeros, set_memory, made_record, made_at, fields_of};
+ghost use Rattle.semispace.specs.Words.{both_halves, word_at, put_at, front as Front, filled as Filled, own as Own, source as Source, home as Home, Found, set_memory, made_record, made_at, fields_of};
 
 use super::Store;
 use crate::collector::Collector;
@@ -86,7 +87,7 @@ impl<'m> Store<'m> {
 
     fn clear_fields(&mut self, at: u32, fields: u32)
         requires { at + 2 + fields ≤ both_halves (view self.old) }
-        ensures { view self.new ≡ set_memory (view self.old) (zeros (view self.old).memory (at + 2) fields) }
+        ensures { view self.new ≡ set_memory (view self.old) (cleared (view self.old).memory (at + 2) fields) }
     {
         let first = (at + HEAD) as usize;
         self.memory[first..first + fields as usize].fill(0);
