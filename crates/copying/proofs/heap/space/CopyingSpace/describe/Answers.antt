@@ -1,4 +1,4 @@
-use Rattle.std.proofs.Common.{◌≡◌, ◌<◌, ◌≤◌, eqb, get_or, sym, refl, ap, ◌∙◌, subst, arith}
+use Rattle.std.proofs.Common.{◌≡◌, ◌<◌, eqb, get_or, sym, refl, ap, ◌∙◌, arith}
 use Rattle.std.proofs.lemmas.Bool.{cond-true, cond-false, eq-eqb, ne_eqb}
 use Rattle.graph.specs.Calls.{look, known}
 use Rattle.semispace.specs.Words.{kind_at}
@@ -6,11 +6,8 @@ use Rattle.semispace.specs.Sound.{number}
 use Rattle.semispace.specs.Callings.{held_at, words_answer}
 use Rattle.kinds.proofs.Sealed.{few_kinds}
 use Rattle.semispace.specs.View.{view}
-use Rattle.semispace.proofs.Answering.{after_called, look_slot, look_full}
+use Rattle.semispace.proofs.Answering.{after_called, look_full}
 use Rattle.copying.proofs.heap.space.CopyingSpace.describe.Goals as goal
-
-pub slot-requires : goal.slot-requires
-slot-requires c = look_slot (view c.args.self.now.store) c.args.self.now.whole c.args.slot c.requires
 
 pub described-requires : goal.described-requires
 described-requires c =
