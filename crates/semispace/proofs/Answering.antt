@@ -2,16 +2,16 @@
 use Rattle.std.proofs.Common.{◌≡◌, ℕ, ◌<◌, ◌≤◌, true, false, eqb, length, get_or, sym, ap, ◌∙◌, subst, ⊎_elim, arith}
 use Rattle.std.proofs.lemmas.Bool.{cases_eq, eq-eqb, ne_eqb}
 use Rattle.graph.specs.Graph.{Record}
-use Rattle.graph.specs.Calls.{Call, make, read, write, follow, link, hold, drop, look, Answer, slot, held}
+use Rattle.graph.specs.Calls.{Call, make, read, write, follow, link, hold, look, Answer, slot, held}
 use Rattle.graph.specs.Meaning.{refusal, gave, Called}
 use Rattle.semispace.specs.Words.{State, Forwardable, kind_at}
 use Rattle.semispace.specs.Sound.{value}
 use Rattle.semispace.specs.Graphs.{raw_of, Whole}
 use Rattle.semispace.specs.Collected.{meaning_of}
-use Rattle.semispace.specs.Callings.{held_at, words_after, words_answer, Full, Held, Numbered, Led, Linkable, Makeable}
+use Rattle.semispace.specs.Callings.{held_at, words_after, words_answer, Full, Held, Numbered, Linkable, Makeable}
 use Rattle.semispace.proofs.Making.{make_room as room_left}
 use Rattle.semispace.proofs.Wholes.{whole}
-use Rattle.semispace.proofs.Asking.{in_array, full_at, numbered_at, held_from, led_from, value_led, linkable_from}
+use Rattle.semispace.proofs.Asking.{full_at, numbered_at, held_from, slot_led, value_led, linkable_from}
 use Rattle.semispace.proofs.Calling.{stands, allowed, count_below, meets, fitting, graph_slots, graph_slot, graph_held, full_slot, slot_full, slot_empty, held_kind}
 
 module _ (s : State) (h : ∥ Whole s ∥₁) where
@@ -33,9 +33,6 @@ module _ (s : State) (h : ∥ Whole s ∥₁) where
 
   counted : (a : ℕ) → a < length (meaning_of s).graph.slots → a < s.count
   counted a l = subst (λ n. a < n) (graph_slots s w) l
-
-  pub slot_in_array : (a : ℕ) → a < length (meaning_of s).graph.slots → a < 64
-  slot_in_array a l = in_array s w.sound w.known a (counted a l)
 
   pub vacant_is : (a : ℕ) → a < length (meaning_of s).graph.slots → eqb (get_or s.slots a 0) 0 ≡ eqb (slot (meaning_of s).graph a) 0
   vacant_is a l =
@@ -64,34 +61,28 @@ module _ (s : State) (h : ∥ Whole s ∥₁) where
   pub write_held : (a i v : ℕ) → refusal (meaning_of s) (write a i v) ≡ 0 → Held s a i
   write_held a i v f = let p = allowed s w (write a i v) f in held_from s w.sound w.known a i false (meets s w a i false p.0 p.1)
 
-  pub follow_held : (a i b : ℕ) → refusal (meaning_of s) (follow a i b) ≡ 0 → Held s a i × (b < 64) × Forwardable s (value s (held_at s a) i)
+  pub follow_held : (a i b : ℕ) → refusal (meaning_of s) (follow a i b) ≡ 0 → Held s a i × Forwardable s (value s (held_at s a) i)
   follow_held a i b f =
       let p = allowed s w (follow a i b) f in
       let m = meets s w a i true p.0 p.2 in
-      (held_from s w.sound w.known a i true m, in_array s w.sound w.known b (count_below s w b p.1), value_led s w.sound w.known a i m)
+      (held_from s w.sound w.known a i true m, value_led s w.sound w.known a i m)
 
   pub link_held : (a i b : ℕ) → refusal (meaning_of s) (link a i b) ≡ 0 → Linkable s a i b
   link_held a i b f =
       let p = allowed s w (link a i b) f in
       linkable_from s w.sound w.known a i b (meets s w a i true p.0 p.2) (count_below s w b p.1)
 
-  pub hold_led : (a b : ℕ) → refusal (meaning_of s) (hold a b) ≡ 0 → Led s a b
-  hold_led a b f = let p = allowed s w (hold a b) f in led_from s w.sound w.known a b (count_below s w a p.0) (count_below s w b p.1)
-
-  pub drop_slot : (a : ℕ) → refusal (meaning_of s) (drop a) ≡ 0 → a < 64
-  drop_slot a f = in_array s w.sound w.known a (count_below s w a (allowed s w (drop a) f))
-
-  pub look_slot : (a : ℕ) → refusal (meaning_of s) (look a) ≡ 0 → a < 64
-  look_slot a f = in_array s w.sound w.known a (count_below s w a (allowed s w (look a) f))
+  pub hold_led : (a b : ℕ) → refusal (meaning_of s) (hold a b) ≡ 0 → Forwardable s (get_or s.slots a 0)
+  hold_led a b f = let p = allowed s w (hold a b) f in slot_led s w.sound w.known a (count_below s w a p.0)
 
   pub look_full : (a : ℕ) → refusal (meaning_of s) (look a) ≡ 0 → 0 < get_or s.slots a 0 → Full s a × Numbered s (held_at s a)
   look_full a f z =
       let l = count_below s w a (allowed s w (look a) f) in
       (full_at s w.sound w.known a l z, numbered_at s w.sound w.known a l z)
 
-  pub make_room : (a k : ℕ) → refusal (meaning_of s) (make a k) ≡ 0 → Makeable s a k
+  pub make_room : (a k : ℕ) → refusal (meaning_of s) (make a k) ≡ 0 → Makeable s k
   make_room a k f =
       let g = fitting s w a k f in
       let c = g.charge in
       let r = room_left s w.sound in
-      record { slot = in_array s w.sound w.known a g.slot; number = g.number; room = omega arith; charge = c }
+      record { number = g.number; room = omega arith; charge = c }

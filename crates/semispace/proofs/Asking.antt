@@ -8,7 +8,7 @@ use Rattle.semispace.specs.Layout.{mem, mades}
 use Rattle.semispace.specs.Words.{State, both_halves, leads_new, resting, kind_at, place_of, fields_at, word_at, home, target, Found, Forwardable, forwarded_state, forwarded_reference, refers}
 use Rattle.semispace.specs.Sound.{the_olds, the_news, the_places, size_of, opened_at, Twin, value, Sound}
 use Rattle.semispace.specs.Graphs.{Known}
-use Rattle.semispace.specs.Callings.{held_at, Full, Held, Numbered, Led, Linkable}
+use Rattle.semispace.specs.Callings.{held_at, Full, Held, Numbered, Linkable}
 use Rattle.semispace.specs.Stands.{Meets}
 use Rattle.semispace.proofs.Spreads.{by_bool, mem_append, mem_left, mem_right, size_two}
 use Rattle.semispace.proofs.Reserving.{mades_inside}
@@ -84,11 +84,8 @@ module _ (s : State) (S : Sound s) (K : Known s) where
   inside x k = all_inside s S.laid x 1 k (omega (arith, size_two s.book s.memory x))
 
   -- slots
-  pub in_array : (a : ℕ) → a < s.count → a < 64
-  in_array a l = let f = S.bounds.few in omega arith
-
   pub full_at : (a : ℕ) → a < s.count → 0 < get_or s.slots a 0 → Full s a
-  full_at a l z = record { slot = in_array a l; full = z; inside = inside (held_at s a) (in_all (held_at s a) (slot_leads s S K a l z)) }
+  full_at a l z = record { full = z; inside = inside (held_at s a) (in_all (held_at s a) (slot_leads s S K a l z)) }
 
   pub numbered_at : (a : ℕ) → a < s.count → 0 < get_or s.slots a 0 → Numbered s (held_at s a)
   numbered_at a l z =
@@ -113,7 +110,7 @@ module _ (s : State) (S : Sound s) (K : Known s) where
       (inside x k, (λ p q. head_some x (new_in x k p)), omega arith)
 
   pub held_from : (a i : ℕ) (t : Bool) → Meets s a i t → Held s a i
-  held_from a i t m = record { slot = in_array a m.slot; full = m.full; found = found_at a i m.slot m.full m.below }
+  held_from a i t m = record { full = m.full; found = found_at a i m.slot m.full m.below }
 
   -- references that may be put
   pub puttable : (r : ℕ) → Reference s S K r → Forwardable s r
@@ -135,8 +132,8 @@ module _ (s : State) (S : Sound s) (K : Known s) where
       ))
       (λ e. forwardable s S e r (g.1 e))
 
-  pub led_from : (a b : ℕ) → a < s.count → b < s.count → Led s a b
-  led_from a b l k = record { slot = in_array a l; to = in_array b k; led = puttable (get_or s.slots a 0) (slot_reference s S K a l) }
+  pub slot_led : (a : ℕ) → a < s.count → Forwardable s (get_or s.slots a 0)
+  slot_led a l = puttable (get_or s.slots a 0) (slot_reference s S K a l)
 
   pub value_led : (a i : ℕ) → Meets s a i true → Forwardable s (value s (held_at s a) i)
   value_led a i m =
@@ -152,7 +149,7 @@ pub linkable_from : (s : State) (S : Sound s) (K : Known s) (a i b : ℕ) → Me
 linkable_from s S K a i b m lb =
     let rb = get_or s.slots b 0 in
     let z = go (forwarded_state s rb) (forwarded_reference s rb) (forth s S K rb (slot_reference s S K b lb) (λ x k e. lives_root s x (root_slot s b x S.enough lb e))) in
-    record { slot = in_array s S K a m.slot; from = in_array s S K b lb; full = m.full; led = puttable s S K rb (slot_reference s S K b lb); found = z }
+    record { full = m.full; led = puttable s S K rb (slot_reference s S K b lb); found = z }
   where
     go : (t : State) (v : ℕ) → Forth s t (get_or s.slots b 0) v → Found t (held_at s a) i
     go t v F =

@@ -124,7 +124,7 @@ module _ (s : State) (S : Sound s) (K : Known s) where
       by_bool (ltb at (next_place s))
       (λ e. let q : fitting s (Scan at) ≡ Open at = rw e in subst P (sym q) (λ T. step_like s (opened s at) S T (rw is) (opened_like s S at is e) (open_gain s S K at is e)))
       (λ e. let q : fitting s (Scan at) ≡ Done = rw e in subst P (sym q) (λ T. step_done s S K at is e))
-  means_at (Field at from i) is = λ T. step_like s (made s (fitting_field s at from i)) S T (rw is) (field_step_like s S (known_apart s K (rw is)) at from i is) (field_gain s S K at from i is)
+  means_at (Field c) is = λ T. step_like s (made s (fitting_field s c)) S T (rw is) (field_step_like s S (known_apart s K (rw is)) c.at c.from c.field is) (field_gain s S K c.at c.from c.field is)
 
   -- A step is a step of the meaning.
   pub step_means : Step (meaning_of s) (meaning_of (stepped s))

@@ -107,7 +107,7 @@ module _ (s : State) (S : Sound s) (is : s.collector ≡ Rest) where
       a_after Rest h = h
       a_after (Slots n) h = h
       a_after (Scan at) h = h
-      a_after (Field at from n) h = h
+      a_after (Field c) h = h
 
   pub start_sound : Sound (started s)
   start_sound =

@@ -4,7 +4,7 @@ use Rattle.std.proofs.lemmas.Bool.{or_from, or_left, or_right, and_right, ltb-tr
 use Rattle.semispace.specs.declared.collector.Collector.{Collector}
 use Rattle.semispace.specs.declared.collector.Collector.TheVariants.{Scan, Field}
 use Rattle.semispace.specs.Layout.{mem}
-use Rattle.semispace.specs.Words.{leads_new, State, put_at, set_collector, own, resting, kind_at, place_of, word_at, next_place}
+use Rattle.semispace.specs.Words.{cursor, leads_new, State, put_at, set_collector, own, resting, kind_at, place_of, word_at, next_place}
 use Rattle.semispace.specs.Sound.{the_olds, the_news, the_places, size_of, opened_at, Twin, At, Sound, number}
 use Rattle.semispace.proofs.Spreads.{by_bool, mem_append, mem_left, mem_right, size_two}
 use Rattle.semispace.proofs.Reserving.{places_inside, mades_inside}
@@ -27,7 +27,7 @@ pub opened_made : (s : State) (S : Sound s) (c : Collector) (x : ℕ) → mem x 
 opened_made s S c x e = or_left (leb (s.halves.base + s.halves.high) x) _ (le-leb (s.halves.base + s.halves.high) x (mades_inside _ _ _ S.laid x e).0)
 
 -- Field i of the place at a is written, and the collector moves on to c.
-module _ (s : State) (S : Sound s) (distinct : Apart s) (a from i w : ℕ) (is : s.collector ≡ Field a from i) (c : Collector)
+module _ (s : State) (S : Sound s) (distinct : Apart s) (a from i w : ℕ) (is : s.collector ≡ Field (cursor a from i)) (c : Collector)
     (going_c : resting c ≡ false)
     (opened_c : (x : ℕ) → mem x (the_places s) ≡ true → opened_at s.halves c x ≡ opened_at s.halves s.collector x)
     (own_c : (x n : ℕ) → mem x (the_news s) ≡ true → 2 + n < size_of s x → own s.halves c x n ≡ true → (own s.halves s.collector x n ≡ true) ⊎ ((x ≡ a) × (n ≡ i)))
@@ -37,7 +37,7 @@ module _ (s : State) (S : Sound s) (distinct : Apart s) (a from i w : ℕ) (is :
     going : resting s.collector ≡ false
     going = rw is
 
-    here : At s (Field a from i)
+    here : At s (Field (cursor a from i))
     here = let P : Collector → Type 0 = λ c. At s c in subst P is S.at
 
     a_news : mem a (the_news s) ≡ true

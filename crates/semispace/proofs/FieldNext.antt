@@ -4,7 +4,7 @@ use Rattle.std.proofs.lemmas.Bool.{or_cases, or_from, or_left, or_right, and_lef
 use Rattle.semispace.specs.declared.collector.Collector.{Collector}
 use Rattle.semispace.specs.declared.collector.Collector.TheVariants.{Scan, Field}
 use Rattle.semispace.specs.Layout.{mem, mades}
-use Rattle.semispace.specs.Words.{State, put_at, set_collector, resting, refers, kind_at}
+use Rattle.semispace.specs.Words.{State, cursor, put_at, set_collector, resting, refers, kind_at}
 use Rattle.semispace.specs.Sound.{the_news, the_places, size_of, good, At, Sound}
 use Rattle.semispace.proofs.Spreads.{spread_apart, spread_starts, next_start, mem_append, size_two}
 use Rattle.semispace.proofs.Reserving.{mades_inside}
@@ -27,18 +27,18 @@ front_moves x at z t q =
           sym (or_from (ltb x at) (eqb x at && true) (le-ltb x at (omega arith)) (and_left (eqb x at) true (ne_eqb x at (λ d. omega arith))))
     ]
 
-module _ (s : State) (S : Sound s) (at from i w : ℕ) (is : s.collector ≡ Field at from i)
+module _ (s : State) (S : Sound s) (at from i w : ℕ) (is : s.collector ≡ Field (cursor at from i))
     (right : refers s.book (kind_at s at) i ≡ true → good (the_news s) w ≡ true)
   where
     going : resting s.collector ≡ false
     going = rw is
 
-    here : At s (Field at from i)
+    here : At s (Field (cursor at from i))
     here = let P : Collector → Type 0 = λ c. At s c in subst P is S.at
 
-    pub next_field : 2 + (i + 1) < size_of s at → Sound (set_collector (put_at s (at + (2 + i)) w) (Field at from (i + 1)))
+    pub next_field : 2 + (i + 1) < size_of s at → Sound (set_collector (put_at s (at + (2 + i)) w) (Field (cursor at from (i + 1))))
     next_field lt =
-        field_sound s S going at i w (Field at from (i + 1)) here.0 here.3 right
+        field_sound s S going at i w (Field (cursor at from (i + 1))) here.0 here.3 right
         (here.0, here.1, here.2, lt) refl
         (λ x m. rw is)
         (λ x n m q o.

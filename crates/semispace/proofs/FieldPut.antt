@@ -69,7 +69,7 @@ module _ (s : State) (S : Sound s) (K : Known s) (h i w : ℕ) (kh : mem h (all 
   at_p Rest a = a
   at_p (Slots n) a = a
   at_p (Scan at) a = rw places_p a
-  at_p (Field at from n) a = (rw places_p a.0, rw olds_p a.1, ap (λ v. v / 16) (tag_p from (of_olds from a.1)) ∙ a.2, rw (size_p at (of_places at a.0)) a.3)
+  at_p (Field c) a = (rw places_p a.0, rw olds_p a.1, ap (λ v. v / 16) (tag_p c.from (of_olds c.from a.1)) ∙ a.2, rw (size_p c.at (of_places c.at a.0)) a.3)
 
   twin_p : (x q : ℕ) → mem x (the_olds s) ≡ true → Twin s x q → Twin after x q
   twin_p x q m t = record {
@@ -162,7 +162,7 @@ module _ (s : State) (S : Sound s) (K : Known s) (h i w : ℕ) (kh : mem h (all 
   source_p Rest x k = ap (λ v. v - 1) (head_p x k)
   source_p (Slots n) x k = ap (λ v. v - 1) (head_p x k)
   source_p (Scan at) x k = ap (λ v. v - 1) (head_p x k)
-  source_p (Field at from n) x k = ap (λ v. cond (eqb x at) from (v - 1)) (head_p x k)
+  source_p (Field c) x k = ap (λ v. cond (eqb x c.at) c.from (v - 1)) (head_p x k)
 
   pub home_p : (x n : ℕ) → mem x (all s) ≡ true → home after x n ≡ home s x n
   home_p x n k =

@@ -63,7 +63,7 @@ module _ (s : State) (S : Sound s) (going : resting s.collector ≡ false) (a i 
     at_f Rest h = h
     at_f (Slots n) h = h
     at_f (Scan at) h = rw places_f h
-    at_f (Field at from n) h = (rw places_f h.0, rw olds_f h.1, ap (λ v. v / 16) (tag_f from (of_olds from h.1)) ∙ h.2, rw (size_f at (of_places at h.0)) h.3)
+    at_f (Field c) h = (rw places_f h.0, rw olds_f h.1, ap (λ v. v / 16) (tag_f c.from (of_olds c.from h.1)) ∙ h.2, rw (size_f c.at (of_places c.at h.0)) h.3)
 
     twin_f : (x q : ℕ) → mem x (the_olds s) ≡ true → Twin s x q → Twin after x q
     twin_f x q m t = record {

@@ -5,13 +5,10 @@ use Rattle.graph.specs.Graph.{Record, ◌∈◌, Names, Reached, by_slot, by_fie
 use Rattle.graph.specs.Sound.{Same}
 use Rattle.graph.proofs.Changes.{in_map, map_in}
 use Rattle.graph.proofs.Prune.{prune_same}
-use Rattle.semispace.specs.declared.collector.Collector.{Collector}
-use Rattle.semispace.specs.declared.collector.Collector.TheVariants.{Rest, Slots, Scan, Field}
+use Rattle.semispace.specs.declared.collector.Collector.TheVariants.{Scan}
 use Rattle.semispace.specs.Layout.{mem}
-use Rattle.semispace.specs.Words.{home, State, set_halves, passed, opened, made, fitting, fitting_field, stepped, swapped, finished, slots_from, set_collector, own, resting, refers, kind_at, place_of, word_at, next_place}
+use Rattle.semispace.specs.Words.{home, State, finished, own, resting, refers, kind_at, place_of, word_at, next_place}
 use Rattle.semispace.specs.Sound.{the_news, the_places, size_of, good, Sound, number, value, name, shown}
-use Rattle.semispace.specs.declared.collector.Transition.{Transition}
-use Rattle.semispace.specs.declared.collector.Transition.TheVariants.{Open, Done}
 use Rattle.semispace.specs.Dues.{objects}
 use Rattle.semispace.specs.Graphs.{record_of, raw_of, graph_of, Known}
 use Rattle.semispace.proofs.Spreads.{by_bool, mem_right}
@@ -19,10 +16,8 @@ use Rattle.semispace.proofs.ReserveAgree.{new_leads, old_leads_not}
 use Rattle.semispace.proofs.Ends.{done_sound}
 use Rattle.semispace.proofs.Homes.{size_by_kind}
 use Rattle.semispace.proofs.Like.{the_mades}
-use Rattle.semispace.proofs.Stepping.{step_sound}
-use Rattle.semispace.proofs.StepLike.{passed_like, opened_like, field_step_like}
-use Rattle.semispace.proofs.Knowing.{objects_cycle, objects_rest, known_apart, Standing, all_opened, all_own, stands, known_done}
-use Rattle.semispace.proofs.Graphing.{mem_in, in_mem, record_of_eq, slots_eq, graph_like, rest_number, rest_home, graph_begun}
+use Rattle.semispace.proofs.Knowing.{objects_cycle, objects_rest, Standing, all_opened, all_own, stands, known_done}
+use Rattle.semispace.proofs.Graphing.{mem_in, in_mem, record_of_eq, slots_eq, rest_number, rest_home}
 use Rattle.semispace.proofs.Whole.{object_number, number_apart, raw_distinct, object_names, slot_at, good_name}
 
 module _ (s : State) (S : Sound s) (K : Known s) (at : ℕ) (is : s.collector ≡ Scan at) (over : ltb at (next_place s) ≡ false) where
@@ -153,22 +148,3 @@ module _ (s : State) (S : Sound s) (K : Known s) (at : ℕ) (is : s.collector �
   pub graph_done : graph_of (finished s) ≡ graph_of s
   unfolding graph_of
   graph_done = sym (prune_same s.book (raw_of s) (raw_of (finished s)) done_same (raw_distinct s S K) (raw_distinct (finished s) T (known_done s S K at is over)))
-
--- A step leaves the graph.
-module _ (s : State) (S : Sound s) (K : Known s) where
-  graph_at : (c : Collector) → s.collector ≡ c → Sound (made s (fitting s c)) → graph_of (made s (fitting s c)) ≡ graph_of s
-  graph_at Rest is =
-      let P : Collector → Type 0 = λ c. Sound (set_collector (set_halves s (swapped s.halves)) c) → graph_of (set_collector (set_halves s (swapped s.halves)) c) ≡ graph_of s in
-      by_bool (ltb 0 s.count)
-      (λ e. let q : slots_from (set_halves s (swapped s.halves)) 0 ≡ Slots 0 = rw e in subst P (sym q) (λ T. graph_begun s S is (Slots 0) refl T))
-      (λ e. let q : slots_from (set_halves s (swapped s.halves)) 0 ≡ Scan (s.halves.size - s.halves.base) = rw e in subst P (sym q) (λ T. graph_begun s S is (Scan (s.halves.size - s.halves.base)) refl T))
-  graph_at (Slots n) is = λ T. graph_like s (passed s n) S T (rw is) (passed_like s S n is)
-  graph_at (Scan at) is =
-      let P : Transition → Type 0 = λ t. Sound (made s t) → graph_of (made s t) ≡ graph_of s in
-      by_bool (ltb at (next_place s))
-      (λ e. let q : fitting s (Scan at) ≡ Open at = rw e in subst P (sym q) (λ T. graph_like s (opened s at) S T (rw is) (opened_like s S at is e)))
-      (λ e. let q : fitting s (Scan at) ≡ Done = rw e in subst P (sym q) (λ T. graph_done s S K at is e))
-  graph_at (Field at from i) is = λ T. graph_like s (made s (fitting_field s at from i)) S T (rw is) (field_step_like s S (known_apart s K (rw is)) at from i is)
-
-  pub step_graph : graph_of (stepped s) ≡ graph_of s
-  step_graph = graph_at s.collector refl (step_sound s S)

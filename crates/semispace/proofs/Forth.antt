@@ -48,7 +48,7 @@ left_same : (s t : State) → Sound s → Like s t → (c : Collector) → At s 
 left_same s t S L Rest a = refl
 left_same s t S L (Slots n) a = let e = L.count in omega arith
 left_same s t S L (Scan at) a = refl
-left_same s t S L (Field at from i) a = let e = like_size s t L at (mem_left at (the_news s) (the_olds s) (mem_left at (the_places s) (the_mades s) a.0)) in omega arith
+left_same s t S L (Field c) a = let e = like_size s t L c.at (mem_left c.at (the_news s) (the_olds s) (mem_left c.at (the_places s) (the_mades s) a.0)) in omega arith
 
 -- In a cycle: a reference to what lives.
 pub forth_cycle : (s : State) (S : Sound s) (K : Known s) → resting s.collector ≡ false → (r : ℕ) → good (all s) r ≡ true → ((x : ℕ) → mem x (objects s) ≡ true → name s r ≡ number s x → lives s x ≡ true) → Forth s (forwarded_state s r) r (forwarded_reference s r)
@@ -107,7 +107,7 @@ module _ (t : State) (T : Sound t) (K : Known t) (b v : ℕ) (leads : good (the_
   at_s Rest h = h
   at_s (Slots k) h = h
   at_s (Scan at) h = h
-  at_s (Field at from k) h = h
+  at_s (Field c) h = h
 
   slot_is : (xs : List ℕ) (k : ℕ) → k < t.count → good xs (get_or t.slots k 0) ≡ true → good xs v ≡ true → good xs (get_or (lib_set t.slots b v) k 0) ≡ true
   slot_is xs k l f g =
@@ -234,7 +234,7 @@ module _ (t : State) (T : Sound t) (K : Known t) (b v : ℕ) (leads : good (the_
     left_set Rest = refl
     left_set (Slots n) = refl
     left_set (Scan at) = refl
-    left_set (Field at from i) = refl
+    left_set (Field c) = refl
 
     pub set_due : due set ≤ due t
     set_due =

@@ -4,7 +4,7 @@ use Rattle.std.proofs.lemmas.Bool.{or_left, or_right, ltb-true, lt-ltb, and_part
 use Rattle.semispace.specs.declared.collector.Collector.{Collector}
 use Rattle.semispace.specs.declared.collector.Collector.TheVariants.{Slots, Scan, Field}
 use Rattle.semispace.specs.Layout.{mem}
-use Rattle.semispace.specs.Words.{leads_new, State, target, set_slots, forwarded_state, state_at, reference_at, passed, slots_from, put_at, set_collector, written, fields_from, fields_at, resting, refers, kind_at, place_of, word_at}
+use Rattle.semispace.specs.Words.{cursor, leads_new, State, target, set_slots, forwarded_state, state_at, reference_at, passed, slots_from, put_at, set_collector, written, fields_from, fields_at, resting, refers, kind_at, place_of, word_at}
 use Rattle.semispace.specs.Sound.{the_olds, the_news, the_places, size_of, good, opened_at, At, Sound, number}
 use Rattle.semispace.specs.declared.collector.Target.{Target}
 use Rattle.semispace.specs.declared.collector.Target.TheVariants.{Settled, Placed, Unplaced}
@@ -110,11 +110,11 @@ module _ (s : State) (S : Sound s) (K : Known s) where
           (less_trans s t _ lw w.0, w.1)
 
 -- Word, Keep, Forward, Reserve.
-module _ (t : State) (T : Sound t) (K : Known t) (at from i v : ℕ) (is : t.collector ≡ Field at from i)
+module _ (t : State) (T : Sound t) (K : Known t) (at from i v : ℕ) (is : t.collector ≡ Field (cursor at from i))
     (right : refers t.book (kind_at t at) i ≡ true → good (the_news t) v ≡ true)
     (means : Alike t (kind_at t from) i v (word_at t (from + (2 + i))))
   where
-    here : At t (Field at from i)
+    here : At t (Field (cursor at from i))
     here = let P : Collector → Type 0 = λ c. At t c in subst P is T.at
 
     going : resting t.collector ≡ false
@@ -123,7 +123,7 @@ module _ (t : State) (T : Sound t) (K : Known t) (at from i v : ℕ) (is : t.col
     a_all : mem at (all t) ≡ true
     a_all = mem_left at (the_news t) (the_olds t) (mem_left at (the_places t) (the_mades t) here.0)
 
-    write_gain_at : (c : Collector) → fields_from t at from (i + 1) ≡ c → Less t (set_collector (put_at t (at + 2 + i) v) c) × Steps (set_collector (put_at t (at + 2 + i) v) c) (size_of t at - 2 - i)
+    write_gain_at : (c : Collector) → fields_from t (cursor at from (i + 1)) ≡ c → Less t (set_collector (put_at t (at + 2 + i) v) c) × Steps (set_collector (put_at t (at + 2 + i) v) c) (size_of t at - 2 - i)
     write_gain_at c q =
         let u = set_collector (put_at t (at + 2 + i) v) c in
         let U0 = written_sound t T at from i v is right in
@@ -140,7 +140,7 @@ module _ (t : State) (T : Sound t) (K : Known t) (at from i v : ℕ) (is : t.col
         let h3 = here.3 in
         by_bool (ltb (i + 1) (fields_at t at))
         (λ d.
-        let c1 : c ≡ Field at from (i + 1) = sym q ∙ (rw d) in
+        let c1 : c ≡ Field (cursor at from (i + 1)) = sym q ∙ (rw d) in
         let l = ltb-true (i + 1) (fields_at t at) d in
         let st : slots_left u c + fields_left u c + 1 ≤ size_of t at - 2 - i = rw c1 (omega arith) in
         (same_less t u T U K going L nw (λ p k o. let o2 = rw is at o in rw c1 o2), st))
@@ -158,5 +158,5 @@ module _ (t : State) (T : Sound t) (K : Known t) (at from i v : ℕ) (is : t.col
           st,
         ))
 
-    pub write_gain : Less t (written t at from i v) × Steps (written t at from i v) (size_of t at - 2 - i)
-    write_gain = write_gain_at (fields_from t at from (i + 1)) refl
+    pub write_gain : Less t (written t (cursor at from i) v) × Steps (written t (cursor at from i) v) (size_of t at - 2 - i)
+    write_gain = write_gain_at (fields_from t (cursor at from (i + 1))) refl

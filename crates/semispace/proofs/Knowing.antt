@@ -149,7 +149,7 @@ module _ (s : State) (S : Sound s) (K : Known s) where
       by_bool (ltb at (next_place s))
       (λ e. let q : fitting s (Scan at) ≡ Open at = rw e in subst T (sym q) (known_like s (opened s at) (rw is) K (opened_like s S at is e)))
       (λ e. let q : fitting s (Scan at) ≡ Done = rw e in subst T (sym q) (known_done s S K at is e))
-  known_at (Field at from i) is = known_like s (made s (fitting_field s at from i)) (rw is) K (field_step_like s S (known_apart s K (rw is)) at from i is)
+  known_at (Field c) is = known_like s (made s (fitting_field s c)) (rw is) K (field_step_like s S (known_apart s K (rw is)) c.at c.from c.field is)
 
   pub step_known : Known (stepped s)
   step_known = known_at s.collector refl

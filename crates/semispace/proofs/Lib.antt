@@ -6,7 +6,6 @@ pub mod Homes
 pub mod Reaching
 pub mod Sourcing
 pub mod Wholes
-pub mod Numbering
 pub mod Putting
 pub mod FieldSound
 pub mod FieldNext
@@ -16,7 +15,6 @@ pub mod OpenSound
 pub mod Stepping
 pub mod Readying
 pub mod Idling
-pub mod Clearing
 pub mod Opening
 pub mod Opened
 pub mod Like

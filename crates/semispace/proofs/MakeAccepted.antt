@@ -18,7 +18,7 @@ use Rattle.semispace.specs.Graphs.{record_of, raw_of, graph_of, Known, Whole}
 use Rattle.semispace.specs.Collected.{meaning_of, Accepted}
 use Rattle.semispace.specs.Callings.{grown_by, made_in}
 use Rattle.semispace.proofs.Spreads.{by_bool}
-use Rattle.semispace.proofs.Graphing.{mem_in, in_mem}
+use Rattle.semispace.proofs.Graphing.{mem_in, in_mem, record_eq}
 use Rattle.semispace.proofs.SlotSound.{good_from}
 use Rattle.semispace.proofs.Likes.{name_of}
 use Rattle.semispace.proofs.Whole.{raw_sound}
@@ -30,9 +30,6 @@ use Rattle.semispace.proofs.Making.{made_tag, size_here}
 use Rattle.semispace.proofs.MakeSound.{made_there, objects_m}
 use Rattle.semispace.proofs.MakeGraph.{record2}
 use Rattle.semispace.proofs.MakeCounts.{T, KT, at_object, old_object, number_new, names_same, shown_new, kept_made, due_made}
-
-record_path : (r s : Record) → r.number ≡ s.number → r.kind ≡ s.kind → r.fields ≡ s.fields → r ≡ s
-record_path r s a b c = λ i. record { number = a i; kind = b i; fields = c i }
 
 module _ (s : State) (S : Sound s) (K : Known s) (a k : ℕ) (known : k < 16) (kk : k < length s.book) (fits : 2 + fields_of s.book k ≤ s.spare) (la : a < s.count) where
   abbrev at : ℕ
@@ -72,7 +69,7 @@ module _ (s : State) (S : Sound s) (K : Known s) (a k : ℕ) (known : k < 16) (k
   new_record : record_of t at ≡ GC.fresh s.book s.next k
   unfolding record_of
   new_record =
-      record_path _ _ (number_new s S K k known kk fits some_next) kind_new
+      record_eq _ _ (number_new s S K k known kk fits some_next) kind_new
       (ext_get_or 0 (map (shown t at) (range_with_len 0 (fields_at t at))) (replicate (size s.book k) 0)
       (length-map-range_with_len (shown t at) 0 (fields_at t at) ∙ (fields_new ∙ sym (length-replicate (size s.book k) 0)))
       (λ j l.

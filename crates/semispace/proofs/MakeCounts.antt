@@ -1,5 +1,5 @@
 -- A record made: it is one more object, nothing leads from it, and what lived lives; so kept rises by its words at most, and due does not rise.
-use Rattle.std.proofs.Common.{◌≡◌, ℕ, zero, suc, ◌+◌, ◌-◌, ◌<◌, ◌≤◌, Bool, true, false, cond, not, ◌&&◌, ◌||◌, eqb, leb, ◌⊎◌, List, [], ◌∷◌, ◌++◌, map, length, get_or, take, sym, refl, ap, ◌∙◌, subst, inl, inr, arith}
+use Rattle.std.proofs.Common.{◌≡◌, ℕ, ◌+◌, ◌-◌, ◌<◌, ◌≤◌, Bool, true, false, cond, not, ◌&&◌, ◌||◌, eqb, leb, ◌⊎◌, List, [], ◌∷◌, ◌++◌, map, length, get_or, take, sym, refl, ap, ◌∙◌, subst, inl, inr, arith}
 use Rattle.std.proofs.lemmas.Bool.{and_parts, and_from, or_left, or_right, le-leb, eq-eqb, false≢true}
 use Rattle.semispace.specs.declared.collector.Collector.{Collector}
 use Rattle.semispace.specs.declared.collector.Collector.TheVariants.{Rest, Slots, Scan, Field}
@@ -22,6 +22,7 @@ use Rattle.semispace.proofs.Bounding.{names_is}
 use Rattle.semispace.proofs.Gaining.{due_is}
 use Rattle.semispace.proofs.Collecting.{due_rest}
 use Rattle.semispace.proofs.Making.{made_number, made_field, size_here}
+use Rattle.semispace.proofs.Graphing.{take_same}
 use Rattle.semispace.proofs.MakeSound.{make_sound, make_known, news_cases_m, news_kept_m, made_there, opened_m, objects_m, object_all, head_m, size_m, olds_m, mades_m, places_m}
 use Rattle.semispace.proofs.MakeGraph.{name2, number2, kind2, shown2}
 
@@ -33,14 +34,6 @@ sum_insert p f (x ∷ xs) a ys = let h = sum_insert p f xs a ys in omega arith
 cond_most : (b : Bool) (n : ℕ) → cond b n 0 ≤ n
 cond_most true n = omega arith
 cond_most false n = omega arith
-
-pub map_same : (f g : ℕ → ℕ) (n : ℕ) (xs : List ℕ) → n ≤ length xs → ((a : ℕ) → a < n → f (get_or xs a 0) ≡ g (get_or xs a 0)) → map f (take n xs) ≡ map g (take n xs)
-map_same f g zero xs l h = refl
-map_same f g (suc n) [] l h = refl
-map_same f g (suc n) (x ∷ xs) l h =
-    let e : f x ≡ g x = h 0 (omega arith) in
-    let r : map f (take n xs) ≡ map g (take n xs) = map_same f g n xs (omega arith) (λ a k. h (suc a) (omega arith)) in
-    cc
 
 -- the field that makes an edge
 edge_found : (t : State) (y x : ℕ) → edge t y x ≡ true → (i : ℕ) × (i < size_of t y - 2) × (refers t.book (kind_at t y) i ≡ true) × (shown t y i ≡ number t x)
@@ -102,7 +95,7 @@ module _ (s : State) (S : Sound s) (K : Known s) (k : ℕ) (known : k < 16) (kk 
   some_number x m = let e = object_number t T x m in let g = (KT.given x m).0 in omega arith
 
   pub names_same : map (name t) (take s.count s.slots) ≡ map (name s) (take s.count s.slots)
-  names_same = map_same (name t) (name s) s.count s.slots S.enough (λ n l. name2 s S K k known kk fits (get_or s.slots n 0) (slot_reference s S K n l))
+  names_same = take_same (name t) (name s) s.count s.slots s.slots S.enough S.enough (λ n l. name2 s S K k known kk fits (get_or s.slots n 0) (slot_reference s S K n l))
 
   news_number : (p : ℕ) → mem p (the_news s) ≡ true → number t p ≡ number s p
   news_number p m = number2 s S K k known kk fits p ((λ _. m), λ _. mem_left p (the_news s) (the_olds s) m)
@@ -221,7 +214,7 @@ module _ (s : State) (S : Sound s) (K : Known s) (k : ℕ) (known : k < 16) (kk 
   left_same Rest h = refl
   left_same (Slots n) h = refl
   left_same (Scan a) h = refl
-  left_same (Field a from i) h = let e : size_of t a ≡ size_of s a = size_m s S k known fits a (mem_left a (the_news s) (the_olds s) (mem_left a (the_places s) (the_mades s) h.0)) in ap (λ n. 0 + (n - 2 - i)) e
+  left_same (Field c) h = let e : size_of t c.at ≡ size_of s c.at = size_m s S k known fits c.at (mem_left c.at (the_news s) (the_olds s) (mem_left c.at (the_places s) (the_mades s) h.0)) in ap (λ n. 0 + (n - 2 - c.field)) e
 
   pub due_made : due t ≤ due s
   due_made =

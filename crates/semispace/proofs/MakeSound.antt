@@ -1,5 +1,5 @@
 -- A make keeps the invariant.
-use Rattle.std.proofs.Common.{◌≡◌, ℕ, ◌+◌, ◌-◌, ◌/◌, ◌%◌, ◌<◌, ◌≤◌, true, false, ◌&&◌, ◌||◌, eqb, ltb, leb, ◌⊎◌, ◌∷◌, ◌++◌, length, get_or, set, sym, refl, ap, ◌∙◌, subst, ap₂, inl, inr, add_assoc, arith}
+use Rattle.std.proofs.Common.{◌≡◌, ℕ, ◌+◌, ◌-◌, ◌/◌, ◌%◌, ◌<◌, ◌≤◌, true, false, ◌&&◌, ◌||◌, eqb, ltb, leb, ◌⊎◌, ◌∷◌, ◌++◌, length, get_or, set, sym, ap, ◌∙◌, subst, ap₂, inl, inr, add_assoc, arith}
 use Rattle.std.proofs.lemmas.List.{length-set}
 use Rattle.std.proofs.lemmas.Bool.{or_right, lt-leb, le-leb}
 use Rattle.semispace.specs.declared.collector.Collector.{Collector}
@@ -8,17 +8,16 @@ use Rattle.semispace.specs.Layout.{mem}
 use Rattle.semispace.specs.Words.{State, front, filled, own, resting, refers, kind_at, place_of, word_at, fresh, made_at, fields_of}
 use Rattle.semispace.specs.Sound.{the_olds, the_news, the_places, size_of, is_open, opened_at, Twin, At, Cycle, Sound}
 use Rattle.semispace.specs.Dues.{objects}
-use Rattle.semispace.specs.Graphs.{Known, Whole}
-use Rattle.semispace.specs.Callings.{grown_by, made_in}
+use Rattle.semispace.specs.Graphs.{Known}
+use Rattle.semispace.specs.Callings.{grown_by}
 use Rattle.semispace.proofs.Spreads.{by_bool, placed_same, mem_cases, mem_head, mem_append, mem_left, mem_right, size_two}
 use Rattle.semispace.proofs.Reserving.{places_inside, mades_inside}
 use Rattle.semispace.proofs.ReserveSound.{good_more}
 use Rattle.semispace.proofs.Putting.{all}
-use Rattle.semispace.proofs.SlotSound.{good_none, good_from}
+use Rattle.semispace.proofs.SlotSound.{good_none}
 use Rattle.semispace.proofs.Like.{the_mades, objs_all}
 use Rattle.semispace.proofs.Knowing.{objects_cycle, objects_rest}
-use Rattle.semispace.proofs.Forth.{set_sound, set_known}
-use Rattle.semispace.proofs.Clearing.{zeros_length}
+use Rattle.graph.proofs.Clearing.{cleared_length}
 use Rattle.semispace.proofs.Making.{make_room, made_number, made_tag, made_field, made_word, made_size, size_here, lows_made, highs_made, places_made, mades_made, laid_made}
 use Rattle.semispace.proofs.Sourcing.{source_of, has_from}
 
@@ -104,7 +103,7 @@ module _ (s : State) (S : Sound s) (k : ℕ) (known : k < 16) (fits : 2 + fields
   at_m Rest a = a
   at_m (Slots n) a = a
   at_m (Scan p) a = rw places_m a
-  at_m (Field p from n) a = (rw places_m a.0, rw olds_m a.1, ap (λ v. v / 16) (tag_m from (of_olds from a.1)) ∙ a.2, rw (size_m p (of_places p a.0)) a.3)
+  at_m (Field c) a = (rw places_m a.0, rw olds_m a.1, ap (λ v. v / 16) (tag_m c.from (of_olds c.from a.1)) ∙ a.2, rw (size_m c.at (of_places c.at a.0)) a.3)
 
   place_new : (q : ℕ) → mem q (the_places s) ≡ true → mem q (the_news s) ≡ true
   place_new q m = mem_left q (the_places s) (the_mades s) m
@@ -141,7 +140,7 @@ module _ (s : State) (S : Sound s) (k : ℕ) (known : k < 16) (fits : 2 + fields
 
   pub make_sound : Sound t
   make_sound =
-      let len_same : length t.memory ≡ length s.memory = zeros_length (fresh s.memory at s.next k) (at + 2) (fields_of s.book k) ∙ (length-set (set s.memory at s.next) (at + 1) k ∙ length-set s.memory at s.next) in
+      let len_same : length t.memory ≡ length s.memory = cleared_length (fresh s.memory at s.next k) (at + 2) (fields_of s.book k) ∙ (length-set (set s.memory at s.next) (at + 1) k ∙ length-set s.memory at s.next) in
       let q = room in
       record {
         bounds = omega (arith, S.bounds);
@@ -214,9 +213,3 @@ module _ (s : State) (S : Sound s) (k : ℕ) (known : k < 16) (fits : 2 + fields
             let z = source_of s p (K.sourced r p m) in
             has_from t p (record { from = z.from; old = rw olds_m z.old; place = ap (λ v. v / 16) (tag_m z.from (of_olds z.from z.old)) ∙ z.place });
       }
-
-  pub make_whole : (a : ℕ) → a < s.count → Known s → k < length s.book → Whole (made_in s a k)
-  make_whole a la K kk =
-      let g = good_from (the_news t) at (at + 1) refl made_there in
-      let f : 0 < s.next = K.first (omega arith) in
-      record { sound = set_sound t make_sound (make_known K f kk) a (at + 1) g la; known = set_known t make_sound (make_known K f kk) a (at + 1) g la }

@@ -1,34 +1,17 @@
 -- The words of a make, and what lies beside them.
-use Rattle.std.proofs.Common.{◌≡◌, ℕ, zero, suc, ◌+◌, ◌-◌, ◌%◌, ◌<◌, ◌≤◌, true, false, ltb, ◌⊎◌, List, ◌∷◌, length, get_or, set, sym, refl, ap, ◌∙◌, inl, inr, arith}
+use Rattle.std.proofs.Common.{◌≡◌, ℕ, zero, suc, ◌+◌, ◌-◌, ◌%◌, ◌<◌, ◌≤◌, true, false, ltb, ◌⊎◌, List, ◌∷◌, length, set, sym, ap, ◌∙◌, inl, inr, arith}
 use Rattle.std.proofs.lemmas.List.{get_or-set_same, get_or-set_other, length-set}
-use Rattle.std.proofs.lemmas.Bool.{lt-ltb, le-ltb, cases_eq}
+use Rattle.std.proofs.lemmas.Bool.{lt-ltb, le-ltb}
 use Rattle.kinds.specs.Shapes.{Shape}
 use Rattle.graph.specs.Graph.{size}
 use Rattle.semispace.specs.Layout.{size_at, mem, starts, total, lows, highs, Laid}
-use Rattle.semispace.specs.Words.{State, resting, word_at, zeros, fresh, made_at, made_record, fields_of}
+use Rattle.semispace.specs.Words.{State, resting, word_at, fresh, made_at, made_record, fields_of}
 use Rattle.semispace.specs.Sound.{the_olds, the_news, the_places, size_of, Sound}
 use Rattle.semispace.proofs.Spreads.{by_bool, starts_same, total_same, mem_append, mem_left, mem_right, total_append, size_two, placed_within}
 use Rattle.semispace.proofs.Reserving.{places_inside, mades_inside, olds_inside, side_cases}
 use Rattle.semispace.proofs.Putting.{all}
 use Rattle.semispace.proofs.Like.{the_mades}
-use Rattle.semispace.proofs.Clearing.{zeros_length}
-
--- Words of memory after a record is made.
-pub zeros_other : (m : List ℕ) (a n x : ℕ) → (x < a) ⊎ (a + n ≤ x) → get_or (zeros m a n) x 0 ≡ get_or m x 0
-unfolding zeros
-zeros_other m a zero x h = refl
-zeros_other m a (suc n) x h =
-    get_or-set_other (zeros m a n) (a + n) x 0 0 (λ e. elim h [ inl p ↦ omega arith | inr p ↦ omega arith ]) ∙
-    zeros_other m a n x (elim h [ inl p ↦ inl p | inr p ↦ inr (omega arith) ])
-
-pub zeros_in : (m : List ℕ) (a n x : ℕ) → a ≤ x → x < a + n → x < length m → get_or (zeros m a n) x 0 ≡ 0
-unfolding zeros
-zeros_in m a zero x l u q = absurd (omega arith)
-zeros_in m a (suc n) x l u q =
-    elim (cases_eq x (a + n)) [
-      | inl e ↦ rw e (get_or-set_same (zeros m a n) (a + n) 0 0 (let z = zeros_length m a n in omega arith))
-      | inr e ↦ get_or-set_other (zeros m a n) (a + n) x 0 0 e ∙ zeros_in m a n x l (omega arith) q
-    ]
+use Rattle.graph.proofs.Clearing.{cleared_length, cleared_under, cleared_over, cleared_at}
 
 pub starts_enough : (b : List Shape) (m : List ℕ) (f a to : ℕ) → to ≤ a + f → starts b m (suc f) a to ≡ starts b m f a to
 unfolding starts
@@ -77,22 +60,27 @@ module _ (s : State) (S : Sound s) (k n : ℕ) (known : k < 16) (fits : 2 + fiel
 
   pub made_other : (x : ℕ) → (x < at) ⊎ (at + len ≤ x) → word_at after x ≡ word_at s x
   made_other x h =
-      zeros_other (fresh s.memory at n k) (at + 2) (fields_of s.book k) x (elim h [ inl p ↦ inl (omega arith) | inr p ↦ inr (omega arith) ]) ∙
+      elim h [ inl p ↦ cleared_under (fresh s.memory at n k) (at + 2) (fields_of s.book k) x (omega arith) | inr p ↦ cleared_over (fresh s.memory at n k) (at + 2) (fields_of s.book k) x (omega arith) ] ∙
       (get_or-set_other (set s.memory at n) (at + 1) x k 0 (λ e. elim h [ inl p ↦ omega arith | inr p ↦ omega arith ]) ∙
       get_or-set_other s.memory at x n 0 (λ e. elim h [ inl p ↦ omega arith | inr p ↦ omega arith ]))
 
   pub made_number : word_at after at ≡ n
   made_number =
-      zeros_other (fresh s.memory at n k) (at + 2) (fields_of s.book k) at (inl (omega arith)) ∙
+      cleared_under (fresh s.memory at n k) (at + 2) (fields_of s.book k) at (omega arith) ∙
       (get_or-set_other (set s.memory at n) (at + 1) at k 0 (omega arith) ∙ get_or-set_same s.memory at n 0 (let i = at_inside in omega arith))
 
   pub made_tag : word_at after (at + 1) ≡ k
   made_tag =
-      zeros_other (fresh s.memory at n k) (at + 2) (fields_of s.book k) (at + 1) (inl (omega arith)) ∙
+      cleared_under (fresh s.memory at n k) (at + 2) (fields_of s.book k) (at + 1) (omega arith) ∙
       get_or-set_same (set s.memory at n) (at + 1) k 0 (let i = at_inside in let z = length-set s.memory at n in omega arith)
 
   pub made_field : (j : ℕ) → 2 + j < len → word_at after (at + (2 + j)) ≡ 0
-  made_field j l = zeros_in (fresh s.memory at n k) (at + 2) (fields_of s.book k) (at + (2 + j)) (omega arith) (omega arith) (let i = at_inside in let z = length-set s.memory at n in let y = length-set (set s.memory at n) (at + 1) k in omega arith)
+  made_field j l =
+      let e : at + (2 + j) ≡ at + 2 + j = omega arith in
+      let i = at_inside in
+      let z = length-set s.memory at n in
+      let y = length-set (set s.memory at n) (at + 1) k in
+      rw e (cleared_at (fresh s.memory at n k) (at + 2) (fields_of s.book k) j (omega arith) (omega arith))
 
   -- words of records are as before
   pub made_word : (x j : ℕ) → mem x (all s) ≡ true → j < size_of s x → word_at after (x + j) ≡ word_at s (x + j)
@@ -154,7 +142,7 @@ module _ (s : State) (S : Sound s) (k n : ℕ) (known : k < 16) (fits : 2 + fiel
       let r = room in
       let e = at_end in
       let z = size_here in
-      let len_same : length m ≡ length s.memory = zeros_length (fresh s.memory at n k) (at + 2) (fields_of s.book k) ∙ (length-set (set s.memory at n) (at + 1) k ∙ length-set s.memory at n) in
+      let len_same : length m ≡ length s.memory = cleared_length (fresh s.memory at n k) (at + 2) (fields_of s.book k) ∙ (length-set (set s.memory at n) (at + 1) k ∙ length-set s.memory at n) in
       let f0 = S.laid.fits in
       let t0 = S.laid.top in
       let tm = total_same s.book s.memory m (the_mades s) (λ x q. made_size x (mem_left x (the_news s) (the_olds s) (mem_right x (the_places s) (the_mades s) q))) in

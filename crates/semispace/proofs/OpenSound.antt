@@ -107,7 +107,7 @@ module _ (s : State) (S : Sound s) (at : ℕ) (is : s.collector ≡ Scan at) (mo
       at_o Rest h = h
       at_o (Slots n) h = h
       at_o (Scan x) h = rw places_o h
-      at_o (Field x from n) h = (rw places_o h.0, rw olds_o h.1, ap (λ v. v / 16) (tags_o from (of_olds from h.1)) ∙ h.2, rw (size_o x (of_places x h.0)) h.3)
+      at_o (Field c) h = (rw places_o h.0, rw olds_o h.1, ap (λ v. v / 16) (tags_o c.from (of_olds c.from h.1)) ∙ h.2, rw (size_o c.at (of_places c.at h.0)) h.3)
 
       twin_o : (x q : ℕ) → mem x (the_olds s) ≡ true → Twin s x q → Twin after x q
       twin_o x q m t = record {

@@ -7,7 +7,8 @@ use Rattle.graph.specs.Meaning.{Opened, headed_charges}
 use Rattle.semispace.specs.Words.{State}
 use Rattle.semispace.specs.Graphs.{Whole}
 use Rattle.semispace.specs.Collected.{meaning_of}
-use Rattle.semispace.specs.Opening.{bad_opening, unless_bad, opened, opened_meaning}
+use Rattle.graph.specs.Opening.{bad_opening, unless_bad}
+use Rattle.semispace.specs.Opening.{opened, opened_meaning}
 use Rattle.semispace.proofs.Opening.{opening_sound, opening_known, opening_graph, opening_kept, opening_due}
 
 record Good (words slots first : ℕ) : Type 0 where

@@ -5,7 +5,7 @@ use Rattle.graph.specs.Graph.{size}
 use Rattle.semispace.specs.declared.collector.Collector.{Collector}
 use Rattle.semispace.specs.declared.collector.Collector.TheVariants.{Scan, Field}
 use Rattle.semispace.specs.Layout.{mem}
-use Rattle.semispace.specs.Words.{home, State, target, state_at, reference_at, opened, made, fitting_target, fitting_field, put_at, set_collector, written, fields_from, fields_at, own, resting, refers, kind_at, place_of, word_at, next_place}
+use Rattle.semispace.specs.Words.{cursor, home, State, target, state_at, reference_at, opened, made, fitting_target, fitting_field, put_at, set_collector, written, fields_from, fields_at, own, resting, refers, kind_at, place_of, word_at, next_place}
 use Rattle.semispace.specs.Sound.{the_olds, the_news, the_places, size_of, opened_at, Twin, At, Sound, number, value, name, shown}
 use Rattle.semispace.specs.declared.collector.Target.{Target}
 use Rattle.semispace.specs.declared.collector.Target.TheVariants.{Settled, Placed, Unplaced}
@@ -49,10 +49,10 @@ shown_reference s a i r = rw r
 
 module _ (s : State) (S : Sound s) (K : Known s) where
   -- The record that the open one names lives.
-  pub field_lives : (at from i : ℕ) → s.collector ≡ Field at from i → refers s.book (kind_at s from) i ≡ true → (o : ℕ) → mem o (the_olds s) ≡ true → word_at s (from + 2 + i) ≡ o + 1 → 2 + i < size_of s from → lives s o ≡ true
+  pub field_lives : (at from i : ℕ) → s.collector ≡ Field (cursor at from i) → refers s.book (kind_at s from) i ≡ true → (o : ℕ) → mem o (the_olds s) ≡ true → word_at s (from + 2 + i) ≡ o + 1 → 2 + i < size_of s from → lives s o ≡ true
   field_lives at from i is r o ko e lf =
       let P : Collector → Type 0 = λ c. At s c in
-      let here : At s (Field at from i) = subst P is S.at in
+      let here : At s (Field (cursor at from i)) = subst P is S.at in
       let going : resting s.collector ≡ false = rw is in
       let ne : place_of s from ≢ 0 = λ z. let v = here.2 in omega arith in
       let pq : place_of s from - 1 ≡ at = let v = here.2 in omega arith in
@@ -75,10 +75,10 @@ module _ (s : State) (S : Sound s) (K : Known s) where
       value_at : (a i h : ℕ) → home s a i ≡ h → value s a i ≡ word_at s (h + (2 + i))
       value_at a i h e = unfold value in ap (λ y. word_at s (y + (2 + i))) e
 
-  pub field_gain : (at from i : ℕ) → s.collector ≡ Field at from i → Gain s (made s (fitting_field s at from i))
+  pub field_gain : (at from i : ℕ) → s.collector ≡ Field (cursor at from i) → Gain s (made s (fitting_field s (cursor at from i)))
   field_gain at from i is =
       let P : Collector → Type 0 = λ c. At s c in
-      let here : At s (Field at from i) = subst P is S.at in
+      let here : At s (Field (cursor at from i)) = subst P is S.at in
       let going : resting s.collector ≡ false = rw is in
       let distinct = known_apart s K going in
       let w = word_at s (from + 2 + i) in
@@ -92,19 +92,19 @@ module _ (s : State) (S : Sound s) (K : Known s) where
       let we : from + (2 + i) ≡ from + 2 + i = omega arith in
       let c0 : slots_left s s.collector + fields_left s s.collector ≡ size_of s at - 2 - i = rw is (omega arith) in
       let L = field_step_like s S distinct at from i is in
-      let x : T (fitting_field s at from i) =
+      let x : T (fitting_field s (cursor at from i)) =
       by_bool (refers s.book (kind_at s from) i)
       (λ e.
-      let q : fitting_field s at from i ≡ fitting_target at from i (target s w) = rw e in
+      let q : fitting_field s (cursor at from i) ≡ fitting_target (cursor at from i) (target s w) = rw e in
       let g = (S.cycle going).olds_refer from i here.1 lf e in
       let lw = forward_less s S K going w g (λ d k. field_lives at from i is e (w - 1) k d lf) in
       subst T (sym q) (go (target s w) here.0 here.1 lf we e (forward_sound s S going w g) (forward_like s S going w g) lw))
       (λ e.
-      let q : fitting_field s at from i ≡ Word at from i = rw e in
+      let q : fitting_field s (cursor at from i) ≡ Word (cursor at from i) = rw e in
       subst T (sym q) (write_gain s S K at from i w is (λ r. absurd (false≢true (sym e ∙ (rw kinds at r)))) (λ r. ap (λ y. name s (word_at s y)) (sym we), λ r. ap (word_at s) (sym we)))) in
-      gained s (made s (fitting_field s at from i)) (size_of s at - 2 - i) going L.going c0 x.1 x.0
+      gained s (made s (fitting_field s (cursor at from i))) (size_of s at - 2 - i) going L.going c0 x.1 x.0
     where
-      go : (d : Target) → mem at (the_places s) ≡ true → mem from (the_olds s) ≡ true → 2 + i < size_of s from → from + (2 + i) ≡ from + 2 + i → refers s.book (kind_at s from) i ≡ true → Forwarded s (state_at s (word_at s (from + 2 + i)) d) (reference_at s (word_at s (from + 2 + i)) d) → ForwardLike s (state_at s (word_at s (from + 2 + i)) d) (word_at s (from + 2 + i)) (reference_at s (word_at s (from + 2 + i)) d) → Less s (state_at s (word_at s (from + 2 + i)) d) → Less s (made s (fitting_target at from i d)) × Steps (made s (fitting_target at from i d)) (size_of s at - 2 - i)
+      go : (d : Target) → mem at (the_places s) ≡ true → mem from (the_olds s) ≡ true → 2 + i < size_of s from → from + (2 + i) ≡ from + 2 + i → refers s.book (kind_at s from) i ≡ true → Forwarded s (state_at s (word_at s (from + 2 + i)) d) (reference_at s (word_at s (from + 2 + i)) d) → ForwardLike s (state_at s (word_at s (from + 2 + i)) d) (word_at s (from + 2 + i)) (reference_at s (word_at s (from + 2 + i)) d) → Less s (state_at s (word_at s (from + 2 + i)) d) → Less s (made s (fitting_target (cursor at from i) d)) × Steps (made s (fitting_target (cursor at from i) d)) (size_of s at - 2 - i)
       go Settled ka kf lf we e f k lw = write_gain s f.sound K at from i _ is (λ r. f.leads) (λ r. ap (λ y. name s (word_at s y)) (sym we), λ r. absurd (false≢true (sym r ∙ e)))
       go (Placed p) ka kf lf we e f k lw = write_gain s f.sound K at from i _ is (λ r. f.leads) (λ r. k.means ∙ ap (λ y. name s (word_at s y)) (sym we), λ r. absurd (false≢true (sym r ∙ e)))
       go Unplaced ka kf lf we e f k lw =
@@ -116,7 +116,7 @@ module _ (s : State) (S : Sound s) (K : Known s) where
           let x = write_gain t f.sound (known_like s t (rw is) K k.like) at from i (next_place s + 1) is (λ r. f.leads)
           (λ r. k.means ∙ (sym k.was ∙ ap (name t) (sym wt)), λ r. absurd (false≢true (sym r ∙ et))) in
           let x1 = x.1 in
-          (less_trans s t _ lw x.0, (let N : ℕ → Type 0 = λ n. Steps (written t at from i (next_place s + 1)) (n - 2 - i) in subst N z x1))
+          (less_trans s t _ lw x.0, (let N : ℕ → Type 0 = λ n. Steps (written t (cursor at from i) (next_place s + 1)) (n - 2 - i) in subst N z x1))
 
   -- Open.
   module _ (at : ℕ) (is : s.collector ≡ Scan at) (more : ltb at (next_place s) ≡ true) where
@@ -186,7 +186,7 @@ module _ (s : State) (S : Sound s) (K : Known s) where
     o_size : size_of s o ≡ size_of s at
     o_size = size_by_kind s o at (sym (twin_of o at o_old o_place).kind)
 
-    open_gain_at : (c : Collector) → fields_from s at o 0 ≡ c → (L : Like s (set_collector (put_at s at (word_at s o)) c)) → Sound (set_collector (put_at s at (word_at s o)) c) → Gain s (set_collector (put_at s at (word_at s o)) c)
+    open_gain_at : (c : Collector) → fields_from s (cursor at o 0) ≡ c → (L : Like s (set_collector (put_at s at (word_at s o)) c)) → Sound (set_collector (put_at s at (word_at s o)) c) → Gain s (set_collector (put_at s at (word_at s o)) c)
     open_gain_at c q L U =
         let u = set_collector (put_at s at (word_at s o)) c in
         let top : ℕ → Bool = λ p. leb (s.halves.base + s.halves.high) p in
@@ -198,7 +198,7 @@ module _ (s : State) (S : Sound s) (K : Known s) where
         let here : (opened_at s.halves c at ≡ true) × ((p : ℕ) → mem p (the_news s) ≡ true → opened_at s.halves s.collector p ≡ true → opened_at s.halves c p ≡ true) × (slots_left u c + fields_left u c ≤ size_of s at - 2) =
         by_bool (ltb 0 (fields_at s at))
         (λ d.
-        let c1 : c ≡ Field at o 0 = sym q ∙ (rw d) in (
+        let c1 : c ≡ Field (cursor at o 0) = sym q ∙ (rw d) in (
           rw c1 (or_right (leb (s.halves.base + s.halves.high) at) (ltb at at || (eqb at at && true)) (or_right (ltb at at) (eqb at at && true) (and_from (eqb at at) true (eq-eqb at at refl) refl))),
           (λ p k h.
               let h2 : (leb (s.halves.base + s.halves.high) p || (ltb p at || (eqb p at && false))) ≡ true = rw is at h in
@@ -236,4 +236,4 @@ module _ (s : State) (S : Sound s) (K : Known s) where
         inl_news u n p k = inl (rw n at k)
 
     pub open_gain : Gain s (opened s at)
-    open_gain = open_gain_at (fields_from s at o 0) refl (opened_like s S at is more) (opened_sound s S at is more)
+    open_gain = open_gain_at (fields_from s (cursor at o 0)) refl (opened_like s S at is more) (opened_sound s S at is more)

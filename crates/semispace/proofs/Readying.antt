@@ -6,7 +6,7 @@ use Rattle.graph.specs.Graph.{size}
 use Rattle.semispace.specs.declared.collector.Collector.{Collector}
 use Rattle.semispace.specs.declared.collector.Collector.TheVariants.{Rest, Slots, Scan, Field}
 use Rattle.semispace.specs.Layout.{mades}
-use Rattle.semispace.specs.Words.{both_halves, leads_new, State, target, placed_at, Bounds, Ready, Watched, Asked, Room, Forwardable, fitting, fitting_target, fitting_field, transition, resting, refers, kind_at, place_of, word_at, next_place}
+use Rattle.semispace.specs.Words.{cursor, both_halves, leads_new, State, target, placed_at, Bounds, Ready, Watched, Asked, Room, Forwardable, fitting, fitting_target, fitting_field, transition, resting, refers, kind_at, place_of, word_at, next_place}
 use Rattle.semispace.specs.Sound.{the_olds, the_news, the_places, size_of, good, At, Sound}
 use Rattle.semispace.specs.declared.collector.Target.{Target}
 use Rattle.semispace.specs.declared.collector.Target.TheVariants.{Settled, Placed, Unplaced}
@@ -49,11 +49,11 @@ module _ (s : State) (S : Sound s) (going : resting s.collector ≡ false) where
   forwardable r g = (reads r g, λ e. (rooms r g e).1)
 
 module _ (s : State) (S : Sound s) where
-  module _ (at from i : ℕ) (is : s.collector ≡ Field at from i) where
+  module _ (at from i : ℕ) (is : s.collector ≡ Field (cursor at from i)) where
     going : resting s.collector ≡ false
     going = rw is
 
-    here : At s (Field at from i)
+    here : At s (Field (cursor at from i))
     here = let P : Collector → Type 0 = λ c. At s c in subst P is S.at
 
     kinds : kind_at s at ≡ kind_at s from
@@ -75,16 +75,16 @@ module _ (s : State) (S : Sound s) where
     field_good : refers s.book (kind_at s from) i ≡ true → good (all s) (word_at s (from + 2 + i)) ≡ true
     field_good e = (S.cycle going).olds_refer from i here.1 (rw sizes here.3) e
 
-    field_asked : Asked s (fitting_field s at from i)
+    field_asked : Asked s (fitting_field s (cursor at from i))
     field_asked =
         let A : Transition → Type 0 = λ t. Asked s t in
         by_bool (refers s.book (kind_at s from) i)
         (λ e.
-        let q : fitting_field s at from i ≡ fitting_target at from i (target s (word_at s (from + 2 + i))) = rw e in
+        let q : fitting_field s (cursor at from i) ≡ fitting_target (cursor at from i) (target s (word_at s (from + 2 + i))) = rw e in
         subst A (sym q) (go (target s (word_at s (from + 2 + i))) (rooms s S going (word_at s (from + 2 + i)) (field_good e))))
-        (λ e. let q : fitting_field s at from i ≡ Word at from i = rw e in subst A (sym q) (at_reads, from_reads))
+        (λ e. let q : fitting_field s (cursor at from i) ≡ Word (cursor at from i) = rw e in subst A (sym q) (at_reads, from_reads))
       where
-        go : (d : Target) → (d ≡ Unplaced → (0 < word_at s (from + 2 + i)) × Room s (word_at s (from + 2 + i) - 1)) → Asked s (fitting_target at from i d)
+        go : (d : Target) → (d ≡ Unplaced → (0 < word_at s (from + 2 + i)) × Room s (word_at s (from + 2 + i) - 1)) → Asked s (fitting_target (cursor at from i) d)
         go Settled f = (at_reads, from_reads)
         go (Placed p) f = at_reads
         go Unplaced f = ((at_reads, from_reads), (f refl).0, (f refl).1)
@@ -93,7 +93,7 @@ module _ (s : State) (S : Sound s) where
   watched_at Rest is = tt
   watched_at (Slots n) is = tt
   watched_at (Scan at) is = tt
-  watched_at (Field at from i) is = (from_reads at from i is, λ e. reads s S (rw is) (word_at s (from + 2 + i)) (field_good at from i is e))
+  watched_at (Field c) is = (from_reads c.at c.from c.field is, λ e. reads s S (rw is) (word_at s (c.from + 2 + c.field)) (field_good c.at c.from c.field is e))
 
   asked_at : (c : Collector) → s.collector ≡ c → Asked s (fitting s c)
   asked_at Rest is = tt
@@ -114,7 +114,7 @@ module _ (s : State) (S : Sound s) where
         (let v = all_inside s S.laid (word_at s at - 1) 0 (mem_right (word_at s at - 1) (the_news s) (the_olds s) b.1) (omega (arith, size_two s.book s.memory (word_at s at - 1))) in omega arith),
       ))
       (λ e. let q : fitting s (Scan at) ≡ Done = rw e in subst A (sym q) tt)
-  asked_at (Field at from i) is = field_asked at from i is
+  asked_at (Field c) is = field_asked c.at c.from c.field is
 
   -- A sound state is ready for its step.
   pub step_ready : Ready s
@@ -125,16 +125,16 @@ watched_prop : (s : State) (c : Collector) → IsProp (Watched s c)
 watched_prop s Rest = Unit-prop
 watched_prop s (Slots n) = Unit-prop
 watched_prop s (Scan at) = Unit-prop
-watched_prop s (Field at from i) = ×_prop le_prop (Π_prop (λ e. Π_prop (λ l. le_prop)))
+watched_prop s (Field c) = ×_prop le_prop (Π_prop (λ e. Π_prop (λ l. le_prop)))
 
 asked_prop : (s : State) (t : Transition) → IsProp (Asked s t)
 asked_prop s Start = Unit-prop
 asked_prop s (Slot n) = ×_prop le_prop (×_prop (Π_prop (λ l. le_prop)) (Π_prop (λ e. ×_prop le_prop le_prop)))
 asked_prop s (Open at) = ×₃_prop le_prop le_prop le_prop
-asked_prop s (Word at from i) = ×_prop le_prop le_prop
-asked_prop s (Keep at from i) = ×_prop le_prop le_prop
-asked_prop s (Forward at from i p) = le_prop
-asked_prop s (Reserve at from i) = ×₃_prop (×_prop le_prop le_prop) le_prop (×_prop le_prop le_prop)
+asked_prop s (Word c) = ×_prop le_prop le_prop
+asked_prop s (Keep c) = ×_prop le_prop le_prop
+asked_prop s (Forward c p) = le_prop
+asked_prop s (Reserve c) = ×₃_prop (×_prop le_prop le_prop) le_prop (×_prop le_prop le_prop)
 asked_prop s Done = Unit-prop
 
 pub ready_prop : (s : State) → IsProp (Ready s)

@@ -77,7 +77,7 @@ module _ (s : State) (S : Sound s) (going : resting s.collector ≡ false) (o : 
   source_kept Rest x k = ap (λ w. w - 1) (head_news s S going o is_old none x k)
   source_kept (Slots n) x k = ap (λ w. w - 1) (head_news s S going o is_old none x k)
   source_kept (Scan at) x k = ap (λ w. w - 1) (head_news s S going o is_old none x k)
-  source_kept (Field at from i) x k = ap (λ w. cond (eqb x at) from (w - 1)) (head_news s S going o is_old none x k)
+  source_kept (Field c) x k = ap (λ w. cond (eqb x c.at) c.from (w - 1)) (head_news s S going o is_old none x k)
 
   pub home_news : (x i : ℕ) → mem x (the_news s) ≡ true → home (noted_state s o) x i ≡ home s x i
   home_news x i k = rw (new_leads s S.laid x k) (ap (λ w. cond (own s.halves s.collector x i) x w) (source_kept s.collector x k))

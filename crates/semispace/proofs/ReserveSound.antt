@@ -32,7 +32,7 @@ module _ (s : State) (l : Laid s.book s.memory s.halves) where
     ],
     λ e. absurd (false≢true e),
   )
-  front_below (Field at from i) a r = let x = places_inside _ _ _ l at a.0 in let y = size_two s.book s.memory at in (omega arith, λ e. omega arith)
+  front_below (Field c) a r = let x = places_inside _ _ _ l c.at a.0 in let y = size_two s.book s.memory c.at in (omega arith, λ e. omega arith)
 
 module _ (s : State) (S : Sound s) (going : resting s.collector ≡ false) (o : ℕ) (is_old : mem o (the_olds s) ≡ true) (none : place_of s o ≡ 0) where
   pub room_for : s.halves.low + size_of s o ≤ s.halves.high
@@ -66,7 +66,7 @@ module _ (s : State) (S : Sound s) (going : resting s.collector ≡ false) (o : 
       filled_none Rest f = and_right _ _ (le-ltb i 0 (omega arith))
       filled_none (Slots n) f = and_right _ _ (le-ltb i 0 (omega arith))
       filled_none (Scan at) f = and_right _ _ (le-ltb i 0 (omega arith))
-      filled_none (Field at from k) f = and_left _ _ (ne_eqb (next_place s) at (λ d. omega (arith, f refl)))
+      filled_none (Field c) f = and_left _ _ (ne_eqb (next_place s) c.at (λ d. omega (arith, f refl)))
 
   pub olds_after : the_olds (noted_state s o) ≡ the_olds s
   olds_after = ap₂ (λ xs ys. xs ++ ys) (lows_after _ _ _ S.laid o is_old room_for) (highs_after _ _ _ S.laid o is_old room_for)
@@ -206,9 +206,9 @@ module _ (s : State) (S : Sound s) (going : resting s.collector ≡ false) (o : 
         | inl e ↦ mem_left at _ _ (places_kept at e)
         | inr e ↦ elim (mem_cases at (next_place s) [] e) [ inl d ↦ mem_left at (the_places (noted_state s o)) (next_place (noted_state s o) ∷ []) (rw d place_there) | inr d ↦ absurd (false≢true d) ]
       ]
-  at_after (Field at from i) a =
-      let ne : from ≢ o = λ d. let z : place_of s o ≡ at + 1 = rw d at a.2 in omega (arith, none) in
-      (places_kept at a.0, rw olds_after a.1, ap (λ v. v / 16) (tag_olds from a.1 ne) ∙ a.2, rw (sizes_of_news _ _ _ S.laid o is_old room_for at (in_news at a.0)) a.3)
+  at_after (Field c) a =
+      let ne : c.from ≢ o = λ d. let z : place_of s o ≡ c.at + 1 = rw d at a.2 in omega (arith, none) in
+      (places_kept c.at a.0, rw olds_after a.1, ap (λ v. v / 16) (tag_olds c.from a.1 ne) ∙ a.2, rw (sizes_of_news _ _ _ S.laid o is_old room_for c.at (in_news c.at a.0)) a.3)
 
   pub olds_refer_after : (x i : ℕ) → mem x (the_olds (noted_state s o)) ≡ true → 2 + i < size_of (noted_state s o) x → refers s.book (kind_at (noted_state s o) x) i ≡ true → good (the_news (noted_state s o) ++ the_olds (noted_state s o)) (word_at (noted_state s o) (x + 2 + i)) ≡ true
   olds_refer_after x i k0 lt0 r0 =

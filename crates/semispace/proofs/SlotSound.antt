@@ -119,7 +119,7 @@ module _ (t : State) (T : Sound t) (n v : ℕ) (c : Collector) (going : resting 
     at_s Rest h = h
     at_s (Slots k) h = h
     at_s (Scan at) h = h
-    at_s (Field at from k) h = h
+    at_s (Field c) h = h
 
     slot_is : (xs : List ℕ) (k : ℕ) → k < t.count → (k ≢ n → good xs (get_or t.slots k 0) ≡ true) → good xs v ≡ true → good xs (get_or (set t.slots n v) k 0) ≡ true
     slot_is xs k l f g =

@@ -33,10 +33,6 @@ starts_same b m n (suc f) a to h =
     rw (e, sz, ih))
     (λ e. rw e)
 
-pub spread_same : (b : List Shape) (m n : List ℕ) (a to : ℕ) (xs : List ℕ) → Spread b m a to xs → ((x : ℕ) → mem x xs ≡ true → size_at b n x ≡ size_at b m x) → Spread b n a to xs
-spread_same b m n a to [] s h = s
-spread_same b m n a to (y ∷ ys) s h = (s.0, rw (h y (mem_head y ys)) (spread_same b m n (y + size_at b m y) to ys s.1 (λ x k. h x (mem_tail x y ys k))))
-
 pub total_same : (b : List Shape) (m n : List ℕ) (xs : List ℕ) → ((x : ℕ) → mem x xs ≡ true → size_at b n x ≡ size_at b m x) → total b n xs ≡ total b m xs
 total_same b m n [] h = refl
 total_same b m n (y ∷ ys) h = ap₂ (λ p q. p + q) (h y (mem_head y ys)) (total_same b m n ys (λ x k. h x (mem_tail x y ys k)))

@@ -5,7 +5,7 @@ use Rattle.graph.specs.Graph.{size}
 use Rattle.semispace.specs.declared.collector.Collector.{Collector}
 use Rattle.semispace.specs.declared.collector.Collector.TheVariants.{Slots, Scan, Field}
 use Rattle.semispace.specs.Layout.{mem}
-use Rattle.semispace.specs.Words.{State, target, set_slots, state_at, reference_at, passed, opened, made, fitting_target, fitting_field, slots_from, put_at, set_collector, written, fields_from, fields_at, resting, refers, kind_at, place_of, word_at, next_place}
+use Rattle.semispace.specs.Words.{State, cursor, target, set_slots, state_at, reference_at, passed, opened, made, fitting_target, fitting_field, slots_from, put_at, set_collector, written, fields_from, fields_at, resting, refers, kind_at, place_of, word_at, next_place}
 use Rattle.semispace.specs.Sound.{the_olds, the_news, the_places, size_of, good, At, Sound, name}
 use Rattle.semispace.specs.declared.collector.Target.{Target}
 use Rattle.semispace.specs.declared.collector.Target.TheVariants.{Settled, Placed, Unplaced}
@@ -27,11 +27,11 @@ like_apart s t L d a b ka kb e =
     let jb : mem b (objs s) ≡ true = rw (like_objs s t L) at kb in
     d a b ja jb (sym (L.head a ja) ∙ (e ∙ L.head b jb))
 
-module _ (t : State) (T : Sound t) (distinct : Apart t) (at from i v : ℕ) (is : t.collector ≡ Field at from i)
+module _ (t : State) (T : Sound t) (distinct : Apart t) (at from i v : ℕ) (is : t.collector ≡ Field (cursor at from i))
     (right : refers t.book (kind_at t at) i ≡ true → good (the_news t) v ≡ true)
     (means : Alike t (kind_at t from) i v (word_at t (from + (2 + i))))
   where
-    here : At t (Field at from i)
+    here : At t (Field (cursor at from i))
     here = let P : Collector → Type 0 = λ c. At t c in subst P is T.at
 
     abbrev top : ℕ → Bool
@@ -47,9 +47,9 @@ module _ (t : State) (T : Sound t) (distinct : Apart t) (at from i v : ℕ) (is 
           ]
         ]
 
-    next_like : 2 + (i + 1) < size_of t at → Like t (set_collector (put_at t (at + (2 + i)) v) (Field at from (i + 1)))
+    next_like : 2 + (i + 1) < size_of t at → Like t (set_collector (put_at t (at + (2 + i)) v) (Field (cursor at from (i + 1))))
     next_like lt =
-        field_like t T distinct at from i v is (Field at from (i + 1)) refl
+        field_like t T distinct at from i v is (Field (cursor at from (i + 1))) refl
         (λ x m. rw is)
         (λ x n m q o.
         elim (or3 (top x) (ltb x at) (eqb x at && ltb n (i + 1)) o) [
@@ -121,20 +121,20 @@ module _ (t : State) (T : Sound t) (distinct : Apart t) (at from i v : ℕ) (is 
         ])
         means (last_field t T at from i v is right eq)
 
-    pub written_like : Like t (written t at from i v)
+    pub written_like : Like t (written t (cursor at from i) v)
     written_like =
         let z = size_is t at in
-        let Q : ℕ → Type 0 = λ y. Like t (set_collector (put_at t y v) (fields_from t at from (i + 1))) in
+        let Q : ℕ → Type 0 = λ y. Like t (set_collector (put_at t y v) (fields_from t (cursor at from (i + 1)))) in
         let R : Collector → Type 0 = λ c. Like t (set_collector (put_at t (at + (2 + i)) v) c) in
         let e : at + (2 + i) ≡ at + 2 + i = omega arith in
         subst Q e
         (by_bool (ltb (i + 1) (fields_at t at))
-        (λ d. let q : fields_from t at from (i + 1) ≡ Field at from (i + 1) = rw d in
+        (λ d. let q : fields_from t (cursor at from (i + 1)) ≡ Field (cursor at from (i + 1)) = rw d in
         let l = ltb-true (i + 1) (fields_at t at) d in
         subst R (sym q) (next_like (omega arith)))
-        (λ d. let q0 : fields_from t at from (i + 1) ≡ Scan (at + 2 + fields_at t at) = rw d in
+        (λ d. let q0 : fields_from t (cursor at from (i + 1)) ≡ Scan (at + 2 + fields_at t at) = rw d in
         let q1 : at + 2 + fields_at t at ≡ at + size_of t at = omega arith in
-        let q : fields_from t at from (i + 1) ≡ Scan (at + size_of t at) = q0 ∙ ap Scan q1 in
+        let q : fields_from t (cursor at from (i + 1)) ≡ Scan (at + size_of t at) = q0 ∙ ap Scan q1 in
         let l = ltb-false (i + 1) (fields_at t at) d in
         let h3 = here.3 in
         subst R (sym q) (last_like (omega arith))))
@@ -173,17 +173,17 @@ module _ (s : State) (S : Sound s) where
       let t2 = size_two s.book s.memory at in
       let from = word_at s at - 1 in
       let num = word_at s (word_at s at - 1) in
-      let Q : ℕ → Type 0 = λ y. Like s (set_collector (put_at s y num) (fields_from s at from 0)) in
-      let V : ℕ → Type 0 = λ y. Sound (set_collector (put_at s y num) (fields_from s at from 0)) in
+      let Q : ℕ → Type 0 = λ y. Like s (set_collector (put_at s y num) (fields_from s (cursor at from 0))) in
+      let V : ℕ → Type 0 = λ y. Sound (set_collector (put_at s y num) (fields_from s (cursor at from 0))) in
       let R : Collector → Type 0 = λ c. Sound (set_collector (put_at s (at + 0) num) c) → Like s (set_collector (put_at s (at + 0) num) c) in
       let e : at + 0 ≡ at = omega arith in
       let top : ℕ → Bool = λ x. leb (s.halves.base + s.halves.high) x in
       subst Q e
-      (by_bool {P = Like s (set_collector (put_at s (at + 0) num) (fields_from s at from 0))} (ltb 0 (fields_at s at))
+      (by_bool {P = Like s (set_collector (put_at s (at + 0) num) (fields_from s (cursor at from 0)))} (ltb 0 (fields_at s at))
       (λ d.
-      let q : fields_from s at from 0 ≡ Field at from 0 = rw d in
+      let q : fields_from s (cursor at from 0) ≡ Field (cursor at from 0) = rw d in
       subst R (sym q)
-      (open_like s S at is more (Field at from 0) refl
+      (open_like s S at is more (Field (cursor at from 0)) refl
       (λ x m ne. rw is (ap (λ v. leb (s.halves.base + s.halves.high) x || (ltb x at || v)) (and_left (eqb x at) true (ne_eqb x at ne) ∙ sym (and_left (eqb x at) false (ne_eqb x at ne)))))
       (or_right (leb (s.halves.base + s.halves.high) at) (ltb at at || (eqb at at && true)) (or_right (ltb at at) (eqb at at && true) (and_from (eqb at at) true (eq-eqb at at refl) refl)))
       (λ x n m q2 o. rw is o)
@@ -191,7 +191,7 @@ module _ (s : State) (S : Sound s) where
       (subst V (sym e) (opened_sound s S at is more)))
       (λ d.
       let l = ltb-false 0 (fields_at s at) d in
-      let q0 : fields_from s at from 0 ≡ Scan (at + 2 + fields_at s at) = rw d in
+      let q0 : fields_from s (cursor at from 0) ≡ Scan (at + 2 + fields_at s at) = rw d in
       let q1 : at + 2 + fields_at s at ≡ at + size_of s at = omega arith in
       subst R (sym (q0 ∙ ap Scan q1))
       (open_like s S at is more (Scan (at + size_of s at)) refl
@@ -222,10 +222,10 @@ module _ (s : State) (S : Sound s) where
       ]))
       (subst V (sym e) (opened_sound s S at is more))))
 
-  pub field_step_like : (distinct : Apart s) (at from i : ℕ) → s.collector ≡ Field at from i → Like s (made s (fitting_field s at from i))
+  pub field_step_like : (distinct : Apart s) (at from i : ℕ) → s.collector ≡ Field (cursor at from i) → Like s (made s (fitting_field s (cursor at from i)))
   field_step_like distinct at from i is =
       let P : Collector → Type 0 = λ c. At s c in
-      let here : At s (Field at from i) = subst P is S.at in
+      let here : At s (Field (cursor at from i)) = subst P is S.at in
       let going : resting s.collector ≡ false = rw is in
       let w = word_at s (from + 2 + i) in
       let T : Transition → Type 0 = λ t. Like s (made s t) in
@@ -238,14 +238,14 @@ module _ (s : State) (S : Sound s) where
       let we : from + (2 + i) ≡ from + 2 + i = omega arith in
       by_bool (refers s.book (kind_at s from) i)
       (λ e.
-      let q : fitting_field s at from i ≡ fitting_target at from i (target s w) = rw e in
+      let q : fitting_field s (cursor at from i) ≡ fitting_target (cursor at from i) (target s w) = rw e in
       let g = (S.cycle going).olds_refer from i here.1 lf e in
       subst T (sym q) (go (target s w) here.1 lf we e (forward_sound s S going w g) (forward_like s S going w g)))
       (λ e.
-      let q : fitting_field s at from i ≡ Word at from i = rw e in
+      let q : fitting_field s (cursor at from i) ≡ Word (cursor at from i) = rw e in
       subst T (sym q) (written_like s S distinct at from i w is (λ r. absurd (false≢true (sym e ∙ (rw kinds at r)))) (λ r. ap (λ y. name s (word_at s y)) (sym we), λ r. ap (word_at s) (sym we))))
     where
-      go : (d : Target) → mem from (the_olds s) ≡ true → 2 + i < size_of s from → from + (2 + i) ≡ from + 2 + i → refers s.book (kind_at s from) i ≡ true → Forwarded s (state_at s (word_at s (from + 2 + i)) d) (reference_at s (word_at s (from + 2 + i)) d) → ForwardLike s (state_at s (word_at s (from + 2 + i)) d) (word_at s (from + 2 + i)) (reference_at s (word_at s (from + 2 + i)) d) → Like s (made s (fitting_target at from i d))
+      go : (d : Target) → mem from (the_olds s) ≡ true → 2 + i < size_of s from → from + (2 + i) ≡ from + 2 + i → refers s.book (kind_at s from) i ≡ true → Forwarded s (state_at s (word_at s (from + 2 + i)) d) (reference_at s (word_at s (from + 2 + i)) d) → ForwardLike s (state_at s (word_at s (from + 2 + i)) d) (word_at s (from + 2 + i)) (reference_at s (word_at s (from + 2 + i)) d) → Like s (made s (fitting_target (cursor at from i) d))
       go Settled kf lf we e f k = written_like s f.sound distinct at from i _ is (λ r. f.leads) (λ r. ap (λ y. name s (word_at s y)) (sym we), λ r. absurd (false≢true (sym r ∙ e)))
       go (Placed p) kf lf we e f k = written_like s f.sound distinct at from i _ is (λ r. f.leads) (λ r. k.means ∙ ap (λ y. name s (word_at s y)) (sym we), λ r. absurd (false≢true (sym r ∙ e)))
       go Unplaced kf lf we e f k =

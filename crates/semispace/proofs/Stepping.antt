@@ -5,7 +5,7 @@ use Rattle.graph.specs.Graph.{size}
 use Rattle.semispace.specs.declared.collector.Collector.{Collector}
 use Rattle.semispace.specs.declared.collector.Collector.TheVariants.{Rest, Slots, Scan, Field}
 use Rattle.semispace.specs.Layout.{size_at, mades}
-use Rattle.semispace.specs.Words.{State, target, set_slots, state_at, reference_at, passed, opened, made, fitting, fitting_target, fitting_field, stepped, slots_from, put_at, set_collector, written, fields_from, fields_at, resting, refers, kind_at, place_of, word_at, next_place}
+use Rattle.semispace.specs.Words.{State, cursor, target, set_slots, state_at, reference_at, passed, opened, made, fitting, fitting_target, fitting_field, stepped, slots_from, put_at, set_collector, written, fields_from, fields_at, resting, refers, kind_at, place_of, word_at, next_place}
 use Rattle.semispace.specs.Sound.{the_news, the_places, size_of, good, At, Sound}
 use Rattle.semispace.specs.declared.collector.Target.{Target}
 use Rattle.semispace.specs.declared.collector.Target.TheVariants.{Settled, Placed, Unplaced}
@@ -22,22 +22,22 @@ pub size_is : (s : State) (a : ℕ) → size_of s a ≡ 2 + fields_at s a
 unfolding size_at
 size_is s a = refl
 
-pub written_sound : (t : State) (T : Sound t) (at from i v : ℕ) → t.collector ≡ Field at from i → (refers t.book (kind_at t at) i ≡ true → good (the_news t) v ≡ true) → Sound (written t at from i v)
+pub written_sound : (t : State) (T : Sound t) (at from i v : ℕ) → t.collector ≡ Field (cursor at from i) → (refers t.book (kind_at t at) i ≡ true → good (the_news t) v ≡ true) → Sound (written t (cursor at from i) v)
 written_sound t T at from i v is right =
     let P : Collector → Type 0 = λ c. At t c in
-    let here : At t (Field at from i) = subst P is T.at in
+    let here : At t (Field (cursor at from i)) = subst P is T.at in
     let z = size_is t at in
-    let Q : ℕ → Type 0 = λ y. Sound (set_collector (put_at t y v) (fields_from t at from (i + 1))) in
+    let Q : ℕ → Type 0 = λ y. Sound (set_collector (put_at t y v) (fields_from t (cursor at from (i + 1)))) in
     let R : Collector → Type 0 = λ c. Sound (set_collector (put_at t (at + (2 + i)) v) c) in
     let e : at + (2 + i) ≡ at + 2 + i = omega arith in
     subst Q e
     (by_bool (ltb (i + 1) (fields_at t at))
-    (λ d. let q : fields_from t at from (i + 1) ≡ Field at from (i + 1) = rw d in
+    (λ d. let q : fields_from t (cursor at from (i + 1)) ≡ Field (cursor at from (i + 1)) = rw d in
     let l = ltb-true (i + 1) (fields_at t at) d in
     subst R (sym q) (next_field t T at from i v is right (omega arith)))
-    (λ d. let q0 : fields_from t at from (i + 1) ≡ Scan (at + 2 + fields_at t at) = rw d in
+    (λ d. let q0 : fields_from t (cursor at from (i + 1)) ≡ Scan (at + 2 + fields_at t at) = rw d in
     let q1 : at + 2 + fields_at t at ≡ at + size_of t at = omega arith in
-    let q : fields_from t at from (i + 1) ≡ Scan (at + size_of t at) = q0 ∙ ap Scan q1 in
+    let q : fields_from t (cursor at from (i + 1)) ≡ Scan (at + size_of t at) = q0 ∙ ap Scan q1 in
     let l = ltb-false (i + 1) (fields_at t at) d in
     let h3 = here.3 in
     subst R (sym q) (last_field t T at from i v is right (omega arith))))
@@ -78,22 +78,22 @@ module _ (s : State) (S : Sound s) where
       let z = size_is s at in
       let t2 = size_two s.book s.memory at in
       let from = word_at s at - 1 in
-      let Q : ℕ → Type 0 = λ y. Sound (set_collector (put_at s y (word_at s (word_at s at - 1))) (fields_from s at (word_at s at - 1) 0)) in
+      let Q : ℕ → Type 0 = λ y. Sound (set_collector (put_at s y (word_at s (word_at s at - 1))) (fields_from s (cursor at (word_at s at - 1) 0))) in
       let R : Collector → Type 0 = λ c. Sound (set_collector (put_at s (at + 0) (word_at s (word_at s at - 1))) c) in
       let e : at + 0 ≡ at = omega arith in
       subst Q e
       (by_bool (ltb 0 (fields_at s at))
       (λ d.
       let l = ltb-true 0 (fields_at s at) d in
-      let q : fields_from s at (word_at s at - 1) 0 ≡ Field at (word_at s at - 1) 0 = rw d in
+      let q : fields_from s (cursor at (word_at s at - 1) 0) ≡ Field (cursor at (word_at s at - 1) 0) = rw d in
       subst R (sym q)
-      (open_sound s S at is more (Field at (word_at s at - 1) 0) (k, b.1, b.2, omega arith) refl
+      (open_sound s S at is more (Field (cursor at (word_at s at - 1) 0)) (k, b.1, b.2, omega arith) refl
       (λ x m ne. rw is (ap (λ v. leb (s.halves.base + s.halves.high) x || (ltb x at || v)) (and_left (eqb x at) true (ne_eqb x at ne) ∙ sym (and_left (eqb x at) false (ne_eqb x at ne)))))
       (or_right (leb (s.halves.base + s.halves.high) at) (ltb at at || (eqb at at && true)) (or_right (ltb at at) (eqb at at && true) (and_from (eqb at at) true (eq-eqb at at refl) refl)))
       (λ x n m q2 o. rw is o)))
       (λ d.
       let l = ltb-false 0 (fields_at s at) d in
-      let q0 : fields_from s at (word_at s at - 1) 0 ≡ Scan (at + 2 + fields_at s at) = rw d in
+      let q0 : fields_from s (cursor at (word_at s at - 1) 0) ≡ Scan (at + 2 + fields_at s at) = rw d in
       let q1 : at + 2 + fields_at s at ≡ at + size_of s at = omega arith in
       subst R (sym (q0 ∙ ap Scan q1))
       (open_sound s S at is more (Scan (at + size_of s at)) (next_start s.book s.memory (s.halves.size + 1) _ _ at S.laid.places_fill k) refl
@@ -116,10 +116,10 @@ module _ (s : State) (S : Sound s) where
         ]
       ])))))
 
-  pub field_transition : (at from i : ℕ) → s.collector ≡ Field at from i → Sound (made s (fitting_field s at from i))
+  pub field_transition : (at from i : ℕ) → s.collector ≡ Field (cursor at from i) → Sound (made s (fitting_field s (cursor at from i)))
   field_transition at from i is =
       let P : Collector → Type 0 = λ c. At s c in
-      let here : At s (Field at from i) = subst P is S.at in
+      let here : At s (Field (cursor at from i)) = subst P is S.at in
       let going : resting s.collector ≡ false = rw is in
       let w = word_at s (from + 2 + i) in
       let T : Transition → Type 0 = λ t. Sound (made s t) in
@@ -130,13 +130,13 @@ module _ (s : State) (S : Sound s) where
       let sizes : size_of s from ≡ size_of s at = size_is s from ∙ (ap (λ k. 2 + size s.book k) (sym kinds) ∙ sym (size_is s at)) in
       by_bool (refers s.book (kind_at s from) i)
       (λ e.
-      let q : fitting_field s at from i ≡ fitting_target at from i (target s w) = rw e in
+      let q : fitting_field s (cursor at from i) ≡ fitting_target (cursor at from i) (target s w) = rw e in
       subst T (sym q) (go (target s w) (forward_sound s S going w ((S.cycle going).olds_refer from i here.1 (rw sizes here.3) e))))
       (λ e.
-      let q : fitting_field s at from i ≡ Word at from i = rw e in
+      let q : fitting_field s (cursor at from i) ≡ Word (cursor at from i) = rw e in
       subst T (sym q) (written_sound s S at from i w is (λ r. absurd (false≢true (sym e ∙ (rw kinds at r))))))
     where
-      go : (d : Target) → Forwarded s (state_at s (word_at s (from + 2 + i)) d) (reference_at s (word_at s (from + 2 + i)) d) → Sound (made s (fitting_target at from i d))
+      go : (d : Target) → Forwarded s (state_at s (word_at s (from + 2 + i)) d) (reference_at s (word_at s (from + 2 + i)) d) → Sound (made s (fitting_target (cursor at from i) d))
       go Settled f = written_sound s f.sound at from i _ is (λ r. f.leads)
       go (Placed p) f = written_sound s f.sound at from i _ is (λ r. f.leads)
       go Unplaced f = written_sound (state_at s (word_at s (from + 2 + i)) Unplaced) f.sound at from i _ is (λ r. f.leads)
@@ -149,7 +149,7 @@ module _ (s : State) (S : Sound s) where
       by_bool (ltb at (next_place s))
       (λ e. let q : fitting s (Scan at) ≡ Open at = rw e in subst T (sym q) (opened_sound at is e))
       (λ e. let q : fitting s (Scan at) ≡ Done = rw e in subst T (sym q) (done_sound s S at is e))
-  step_at (Field at from i) is = field_transition at from i is
+  step_at (Field c) is = field_transition c.at c.from c.field is
 
   -- Every step keeps the invariant.
   pub step_sound : Sound (stepped s)

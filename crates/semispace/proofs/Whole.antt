@@ -68,7 +68,7 @@ object_number s S x k =
     rested Rest e = refl
     rested (Slots n) e = absurd (false≢true e)
     rested (Scan n) e = absurd (false≢true e)
-    rested (Field a f i) e = absurd (false≢true e)
+    rested (Field c) e = absurd (false≢true e)
 
     made_number : (x : ℕ) → mem x (the_mades s) ≡ true → number s x ≡ word_at s x
     made_number x e = unfold number in (let o = opened_made s S s.collector x e in rw (new_leads s S.laid x (mem_right x (the_places s) (the_mades s) e), o))
@@ -77,7 +77,7 @@ pub rested : (c : Collector) → resting c ≡ true → c ≡ Rest
 rested Rest e = refl
 rested (Slots n) e = absurd (false≢true e)
 rested (Scan n) e = absurd (false≢true e)
-rested (Field a f i) e = absurd (false≢true e)
+rested (Field c) e = absurd (false≢true e)
 
 distinct_map : (f : ℕ → Record) (xs : List ℕ) → Once xs → ((p q : ℕ) → p ∈ xs → q ∈ xs → (f p).number ≡ (f q).number → p ≡ q) → Distinct (map f xs)
 distinct_map f [] o h = tt

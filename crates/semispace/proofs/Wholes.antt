@@ -47,7 +47,7 @@ at_prop : (s : State) (c : Collector) → IsProp (At s c)
 at_prop s Rest x y = Unit-prop x y
 at_prop s (Slots n) x y = le_prop x y
 at_prop s (Scan at) x y = bool (mem at (the_places s ++ (next_place s ∷ []))) x y
-at_prop s (Field at from i) x y = λ k. (bool (mem at (the_places s)) x.0 y.0 k, bool (mem from (the_olds s)) x.1 y.1 k, nat (place_of s from) (at + 1) x.2 y.2 k, le_prop x.3 y.3 k)
+at_prop s (Field c) x y = λ k. (bool (mem c.at (the_places s)) x.0 y.0 k, bool (mem c.from (the_olds s)) x.1 y.1 k, nat (place_of s c.from) (c.at + 1) x.2 y.2 k, le_prop x.3 y.3 k)
 
 cycle_prop : (s : State) → IsProp (Cycle s)
 cycle_prop s x y = λ i. record {

@@ -321,7 +321,7 @@ module _ (s : State) (S : Sound s) (K : Known s) (o i w : ℕ) (ko : mem o (obje
   left_f Rest a = refl
   left_f (Slots n) a = refl
   left_f (Scan at) a = refl
-  left_f (Field at from n) a = let z = size_p s S K h i w kh ph right_h at (mem_left at (the_news s) (the_olds s) (mem_left at (the_places s) (the_mades s) a.0)) in omega arith
+  left_f (Field c) a = let z = size_p s S K h i w kh ph right_h c.at (mem_left c.at (the_news s) (the_olds s) (mem_left c.at (the_places s) (the_mades s) a.0)) in omega arith
 
   pub field_due : due after ≤ due s
   field_due =

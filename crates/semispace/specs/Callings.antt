@@ -64,13 +64,11 @@ Acted s c (refused n) t = t ≡ s
 
 -- What the code of a call asks. A full slot: its record lies in the halves.
 pub record Full (s : State) (a : ℕ) : Type 0 where
-  pub slot : a < 64
   pub full : 0 < slice_index s.slots a
   pub inside : held_at s a + 1 < both_halves s
 
 -- A field of a full slot's record, both copies of it.
 pub record Held (s : State) (a i : ℕ) : Type 0 where
-  pub slot : a < 64
   pub full : 0 < slice_index s.slots a
   pub found : Found s (held_at s a) i
 
@@ -80,20 +78,12 @@ pub record Numbered (s : State) (a : ℕ) : Type 0 where
   pub some : leads_new s.halves (a + 1) ≡ true → opened_at s.halves s.collector a ≡ false → 0 < word_at s a
   pub old : leads_new s.halves (a + 1) ≡ true → opened_at s.halves s.collector a ≡ false → word_at s a - 1 < both_halves s
 
-pub record Led (s : State) (a b : ℕ) : Type 0 where
-  pub slot : a < 64
-  pub to : b < 64
-  pub led : Forwardable s (slice_index s.slots a)
-
 pub record Linkable (s : State) (a i b : ℕ) : Type 0 where
-  pub slot : a < 64
-  pub from : b < 64
   pub full : 0 < slice_index s.slots a
   pub led : Forwardable s (slice_index s.slots b)
   pub found : Found (forwarded_state s (slice_index s.slots b)) (held_at s a) i
 
-pub record Makeable (s : State) (a k : ℕ) : Type 0 where
-  pub slot : a < 64
+pub record Makeable (s : State) (k : ℕ) : Type 0 where
   pub number : s.next ≤ 4294967295
   pub room : s.halves.low + (2 + fields_of s.book k) ≤ s.halves.high
   pub charge : 2 + fields_of s.book k ≤ s.spare

@@ -37,13 +37,13 @@ abbrev pub slots_left : State → Collector → ℕ
 slots_left s Rest = 0
 slots_left s (Slots n) = s.count - n
 slots_left s (Scan at) = 0
-slots_left s (Field at from i) = 0
+slots_left s (Field c) = 0
 
 abbrev pub fields_left : State → Collector → ℕ
 fields_left s Rest = 0
 fields_left s (Slots n) = 0
 fields_left s (Scan at) = 0
-fields_left s (Field at from i) = size_of s at - 2 - i
+fields_left s (Field c) = size_of s c.at - 2 - c.field
 
 -- What is left to open.
 unfoldable pub pending : State → ℕ

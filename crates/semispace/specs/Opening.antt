@@ -1,17 +1,10 @@
 -- The opening of a copying heap.
-use Rattle.std.specs.Prelude.{ℕ, ◌+◌, ◌/◌, Bool, cond, ◌||◌, List, [], length, replicate, ◌==◌, nat_lt}
+use Rattle.std.specs.Prelude.{ℕ, ◌+◌, ◌/◌, List, [], length, replicate}
 use Rattle.kinds.specs.Shapes.{Shape}
 use Rattle.graph.specs.Meaning.{Meaning, headed_charges}
+use Rattle.graph.specs.Opening.{bad_opening, unless_bad, asked_opening}
 use Rattle.semispace.specs.declared.collector.Collector.TheVariants.{Rest}
 use Rattle.semispace.specs.Words.{State}
-
--- An opening is bad if memory passes 16,384 words, the number of slots is outside 1 to 64, or the first number is 0.
-abbrev pub bad_opening : ℕ → ℕ → ℕ → Bool
-bad_opening words slots first = nat_lt 16384 words || (slots == 0 || (nat_lt 64 slots || first == 0))
-
--- A number, but 0 after a bad opening.
-abbrev pub unless_bad : Bool → ℕ → ℕ
-unless_bad bad n = cond bad 0 n
 
 -- Empty slots and halves of so many words, all of them spare; the collector is at rest.
 abbrev pub opening : List ℕ → ℕ → ℕ → List Shape → ℕ → State
@@ -47,4 +40,4 @@ opened_meaning words slots book first =
 
 -- What the question about the opening returns: 10 for a heap without slots, else 0.
 abbrev pub opening_refusal : State → ℕ
-opening_refusal s = cond (s.count == 0) 10 0
+opening_refusal s = asked_opening s.count

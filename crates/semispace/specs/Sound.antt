@@ -26,7 +26,7 @@ abbrev pub is_open : Collector → Bool
 is_open Rest = false
 is_open (Slots n) = false
 is_open (Scan at) = false
-is_open (Field at from i) = true
+is_open (Field c) = true
 
 -- Has the place at a been opened?
 abbrev pub opened_at : Halves → Collector → ℕ → Bool
@@ -36,7 +36,7 @@ abbrev pub passed_slot : Collector → ℕ → Bool
 passed_slot Rest n = true
 passed_slot (Slots k) n = nat_lt n k
 passed_slot (Scan at) n = true
-passed_slot (Field at from i) n = true
+passed_slot (Field c) n = true
 
 -- p is the place of the old record at o.
 pub record Twin (s : State) (o p : ℕ) : Type 0 where
@@ -49,7 +49,7 @@ abbrev pub At : State → Collector → Type 0
 At s Rest = Unit {0}
 At s (Slots n) = n < s.count
 At s (Scan at) = mem at (the_places s ++ (next_place s ∷ [])) ≡ true
-At s (Field at from i) = (mem at (the_places s) ≡ true) × (mem from (the_olds s) ≡ true) × (place_of s from ≡ at + 1) × (2 + i < size_of s at)
+At s (Field c) = (mem c.at (the_places s) ≡ true) × (mem c.from (the_olds s) ≡ true) × (place_of s c.from ≡ c.at + 1) × (2 + c.field < size_of s c.at)
 
 pub record Cycle (s : State) : Type 0 where
   pub sum : placed s.book s.memory (the_olds s) ≡ s.halves.low

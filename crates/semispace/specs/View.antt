@@ -4,4 +4,4 @@ use Rattle.semispace.specs.Words.{State}
 use Rattle.semispace.specs.declared.store.Store.{Store}
 
 abbrev pub view : Store → State
-view s = record { memory = s.memory.now; slots = s.slots; count = s.count; book = kinds_of s.book; next = s.next; spare = s.spare; halves = s.halves; collector = s.collector }
+view s = record { memory = s.memory.now; slots = s.slots.held; count = s.slots.count; book = kinds_of s.book; next = s.next; spare = s.spare; halves = s.halves; collector = s.collector }

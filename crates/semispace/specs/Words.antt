@@ -1,8 +1,10 @@
 -- The words and registers of a copying heap, the transitions, and where a field is.
-use Rattle.std.specs.Prelude.{◌≡◌, ℕ, zero, suc, ◌+◌, ◌-◌, ◌*◌, ◌/◌, ◌%◌, ◌<◌, ◌≤◌, Bool, true, false, cond, ◌&&◌, ◌||◌, List, length, ◌==◌, nat_le, nat_lt, slice_index, slice_index_or, slice_set}
+use Rattle.std.specs.Prelude.{◌≡◌, ℕ, zero, suc, ◌+◌, ◌-◌, ◌*◌, ◌/◌, ◌%◌, ◌<◌, ◌≤◌, Bool, true, false, cond, Option, Some, None, ◌&&◌, ◌||◌, List, length, ◌==◌, nat_le, nat_lt, slice_index, slice_index_or, slice_set}
 use Rattle.kinds.specs.Shapes.{Shape, no_shape, within}
 use Rattle.graph.specs.Graph.{size}
+use Rattle.graph.specs.Clearing.{cleared}
 use Rattle.semispace.specs.declared.halves.Halves.{Halves}
+use Rattle.semispace.specs.declared.cursor.Cursor.{Cursor}
 use Rattle.semispace.specs.declared.collector.Collector.{Collector}
 use Rattle.semispace.specs.declared.collector.Collector.TheVariants.{Rest, Slots, Scan, Field}
 use Rattle.semispace.specs.declared.collector.Transition.{Transition}
@@ -102,6 +104,10 @@ abbrev pub placed_at : ℕ → Target
 placed_at zero = Unplaced
 placed_at (suc n) = Placed (suc n)
 
+-- The reference of a place as it is met: none where the number is 0.
+abbrev pub place_met : ℕ → Option ℕ
+place_met n = cond (n == 0) None (Some n)
+
 abbrev pub target : State → ℕ → Target
 target s r = cond (r == 0 || leads_new s.halves r) Settled (placed_at (place_of s (r - 1)))
 
@@ -141,29 +147,35 @@ put_slot s n r = set_slots (forwarded_state s r) (slice_set s.slots n (forwarded
 abbrev pub passed : State → ℕ → State
 passed s n = set_collector (put_slot s n (slice_index s.slots n)) (slots_from s (n + 1))
 
-abbrev pub fields_from : State → ℕ → ℕ → ℕ → Collector
-fields_from s at from i = cond (nat_lt i (fields_at s at)) (Field at from i) (Scan (at + 2 + fields_at s at))
+abbrev pub cursor : ℕ → ℕ → ℕ → Cursor
+cursor at from i = record { at = at; from = from; field = i }
+
+abbrev pub next_field : Cursor → Cursor
+next_field c = cursor c.at c.from (c.field + 1)
+
+abbrev pub fields_from : State → Cursor → Collector
+fields_from s c = cond (nat_lt c.field (fields_at s c.at)) (Field c) (Scan (c.at + 2 + fields_at s c.at))
 
 abbrev pub Openable : State → ℕ → Type 0
 Openable s at = (at + 1 < both_halves s) × (0 < word_at s at) × (word_at s at - 1 < both_halves s)
 
 abbrev pub opened : State → ℕ → State
-opened s at = set_collector (put_at s at (word_at s (word_at s at - 1))) (fields_from s at (word_at s at - 1) 0)
+opened s at = set_collector (put_at s at (word_at s (word_at s at - 1))) (fields_from s (cursor at (word_at s at - 1) 0))
 
 abbrev pub Writable : State → ℕ → ℕ → Type 0
 Writable s at i = at + 2 + i < both_halves s
 
-abbrev pub written : State → ℕ → ℕ → ℕ → ℕ → State
-written s at from i w = set_collector (put_at s (at + 2 + i) w) (fields_from s at from (i + 1))
+abbrev pub written : State → Cursor → ℕ → State
+written s c w = set_collector (put_at s (c.at + 2 + c.field) w) (fields_from s (next_field c))
 
-abbrev pub Copyable : State → ℕ → ℕ → ℕ → Type 0
-Copyable s at from i = Writable s at i × Writable s from i
+abbrev pub Copyable : State → Cursor → Type 0
+Copyable s c = Writable s c.at c.field × Writable s c.from c.field
 
-abbrev pub copied_field : State → ℕ → ℕ → ℕ → State
-copied_field s at from i = written s at from i (word_at s (from + 2 + i))
+abbrev pub copied_field : State → Cursor → State
+copied_field s c = written s c (word_at s (c.from + 2 + c.field))
 
-abbrev pub reserved_field : State → ℕ → ℕ → ℕ → State
-reserved_field s at from i = written (reserved s (word_at s (from + 2 + i) - 1)) at from i (next_place s + 1)
+abbrev pub reserved_field : State → Cursor → State
+reserved_field s c = written (reserved s (word_at s (c.from + 2 + c.field) - 1)) c (next_place s + 1)
 
 abbrev pub finished : State → State
 finished s = set_collector (set_spare s (s.halves.high - s.halves.low)) Rest
@@ -172,28 +184,28 @@ abbrev pub resting : Collector → Bool
 resting Rest = true
 resting (Slots n) = false
 resting (Scan at) = false
-resting (Field at from i) = false
+resting (Field c) = false
 
 -- What a step reads lies in memory.
 abbrev pub Watched : State → Collector → Type 0
 Watched s Rest = Unit {0}
 Watched s (Slots n) = Unit {0}
 Watched s (Scan at) = Unit {0}
-Watched s (Field at from i) = (from + 2 + i < both_halves s) × (refers s.book (kind_at s from) i ≡ true → 0 < word_at s (from + 2 + i) → word_at s (from + 2 + i) < both_halves s)
+Watched s (Field c) = (c.from + 2 + c.field < both_halves s) × (refers s.book (kind_at s c.from) c.field ≡ true → 0 < word_at s (c.from + 2 + c.field) → word_at s (c.from + 2 + c.field) < both_halves s)
 
-abbrev pub fitting_target : ℕ → ℕ → ℕ → Target → Transition
-fitting_target at from i Settled = Keep at from i
-fitting_target at from i (Placed p) = Forward at from i p
-fitting_target at from i Unplaced = Reserve at from i
+abbrev pub fitting_target : Cursor → Target → Transition
+fitting_target c Settled = Keep c
+fitting_target c (Placed p) = Forward c p
+fitting_target c Unplaced = Reserve c
 
-abbrev pub fitting_field : State → ℕ → ℕ → ℕ → Transition
-fitting_field s at from i = cond (refers s.book (kind_at s from) i) (fitting_target at from i (target s (word_at s (from + 2 + i)))) (Word at from i)
+abbrev pub fitting_field : State → Cursor → Transition
+fitting_field s c = cond (refers s.book (kind_at s c.from) c.field) (fitting_target c (target s (word_at s (c.from + 2 + c.field)))) (Word c)
 
 abbrev pub fitting : State → Collector → Transition
 fitting s Rest = Start
 fitting s (Slots n) = Slot n
 fitting s (Scan at) = cond (nat_lt at (next_place s)) (Open at) Done
-fitting s (Field at from i) = fitting_field s at from i
+fitting s (Field c) = fitting_field s c
 
 -- The one transition that fits.
 abbrev pub transition : State → Transition
@@ -204,10 +216,10 @@ abbrev pub Asked : State → Transition → Type 0
 Asked s Start = Unit {0}
 Asked s (Slot n) = Passable s n
 Asked s (Open at) = Openable s at
-Asked s (Word at from i) = Copyable s at from i
-Asked s (Keep at from i) = Copyable s at from i
-Asked s (Forward at from i p) = Writable s at i
-Asked s (Reserve at from i) = Copyable s at from i × (0 < word_at s (from + 2 + i)) × Room s (word_at s (from + 2 + i) - 1)
+Asked s (Word c) = Copyable s c
+Asked s (Keep c) = Copyable s c
+Asked s (Forward c p) = Writable s c.at c.field
+Asked s (Reserve c) = Copyable s c × (0 < word_at s (c.from + 2 + c.field)) × Room s (word_at s (c.from + 2 + c.field) - 1)
 Asked s Done = Unit {0}
 
 pub record Ready (s : State) : Type 0 where
@@ -218,10 +230,10 @@ abbrev pub made : State → Transition → State
 made s Start = started s
 made s (Slot n) = passed s n
 made s (Open at) = opened s at
-made s (Word at from i) = copied_field s at from i
-made s (Keep at from i) = copied_field s at from i
-made s (Forward at from i p) = written s at from i p
-made s (Reserve at from i) = reserved_field s at from i
+made s (Word c) = copied_field s c
+made s (Keep c) = copied_field s c
+made s (Forward c p) = written s c p
+made s (Reserve c) = reserved_field s c
 made s Done = finished s
 
 abbrev pub stepped : State → State
@@ -232,13 +244,13 @@ abbrev pub front : ℕ → ℕ → Collector → ℕ
 front base size Rest = base + size
 front base size (Slots n) = base
 front base size (Scan at) = at
-front base size (Field at from i) = at
+front base size (Field c) = c.at
 
 abbrev pub filled : Collector → ℕ
 filled Rest = 0
 filled (Slots n) = 0
 filled (Scan at) = 0
-filled (Field at from i) = i
+filled (Field c) = c.field
 
 abbrev pub own : Halves → Collector → ℕ → ℕ → Bool
 own h c a i = nat_le (h.base + h.high) a || (nat_lt a (front h.base h.size c) || (a == front h.base h.size c && nat_lt i (filled c)))
@@ -247,7 +259,7 @@ abbrev pub source : List ℕ → Collector → ℕ → ℕ
 source m Rest a = slice_index m a - 1
 source m (Slots n) a = slice_index m a - 1
 source m (Scan at) a = slice_index m a - 1
-source m (Field at from i) a = cond (a == at) from (slice_index m a - 1)
+source m (Field c) a = cond (a == c.at) c.from (slice_index m a - 1)
 
 abbrev pub home_old : Halves → Collector → ℕ → ℕ → ℕ → ℕ
 home_old h c q a i = cond (q == 0) a (cond (own h c (q - 1) i) (q - 1) a)
@@ -275,11 +287,6 @@ unfoldable pub idle_state : ℕ → State → State
 idle_state zero s = s
 idle_state (suc n) s = cond (resting (stepped s).collector) (stepped s) (idle_state n (stepped s))
 
--- Memory with n words from a on empty.
-unfoldable pub zeros : List ℕ → ℕ → ℕ → List ℕ
-zeros m a zero = m
-zeros m a (suc n) = slice_set (zeros m a n) (a + n) 0
-
 abbrev pub made_at : State → ℕ → ℕ
 made_at s k = s.halves.base + (s.halves.high - (2 + fields_of s.book k))
 
@@ -290,5 +297,5 @@ fresh m at number k = slice_set (slice_set m at number) (at + 1) k
 abbrev pub made_record : State → ℕ → ℕ → State
 made_record s k number =
     set_halves
-    (set_memory s (zeros (fresh s.memory (made_at s k) number k) (made_at s k + 2) (fields_of s.book k)))
+    (set_memory s (cleared (fresh s.memory (made_at s k) number k) (made_at s k + 2) (fields_of s.book k)))
     (lowered s.halves (2 + fields_of s.book k))

@@ -4,7 +4,8 @@ ghost use Rattle.std.specs.Prelude.{◌≡◌, ◌+◌, ◌-◌, ◌^◌, ◌<�
 ghost use Rattle.semispace.specs.Words.{grown as Grown, swapped as Swapped, lowered as Lowered, leads_new};
 
 /// The halves of memory: their size, where the new one begins, what is taken of it at its two ends, and what was taken of the old one.
-#[derive(Clone, Copy)]
+// Kept: four ends and not two pairs, since low and high are read and set one by one, and only `swapped` moves both.
+#[derive(Clone, Copy, Debug, PartialEq, Eq)]
 pub struct Halves {
     pub size: u32,
     pub base: u32,

@@ -4,6 +4,7 @@ ghost use Rattle.std.specs.Prelude.{◌≡◌, ◌+◌, ◌≤◌, length};
 
 use crate::collector::Collector;
 use crate::halves::Halves;
+use graph::slots::Slots;
 use kinds::book::SealedBook;
 
 pub mod actions;
@@ -12,20 +13,15 @@ pub mod opening;
 pub mod questions;
 pub mod steps;
 
-/// The most slots that a heap has.
-pub const MAX_SLOTS: usize = 64;
-
 /// Lent words, and the registers over them.
 pub struct Store<'m> {
     pub memory: &'m mut [u32],
-    pub(crate) slots: [u32; MAX_SLOTS],
-    pub count: u32,
+    pub slots: Slots,
     book: SealedBook,
     pub next: u64,
     pub spare: u32,
     pub halves: Halves,
     collector: Collector,
-    ghost few: { count ≤ 64 },
     ghost half: { halves.size + halves.size ≤ length memory.now },
     ghost small: { halves.size ≤ 8192 },
     ghost side: { halves.base ≤ halves.size },
@@ -34,6 +30,7 @@ pub struct Store<'m> {
 }
 
 /// Letting a heap go leaves the lent words as they were.
+// Kept: a derived `Drop` has no contract, and this one promises what the lender finds.
 impl<'m> Drop for Store<'m> {
     fn drop(self)
         ensures { self.exit.0.now ≡ self.entry.memory.now }
@@ -41,7 +38,6 @@ impl<'m> Drop for Store<'m> {
         let Store {
             memory: _,
             slots: _,
-            count: _,
             book: _,
             next: _,
             spare: _,

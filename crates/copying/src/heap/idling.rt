@@ -25,14 +25,12 @@ impl<'m> Copying<'m> {
         ensures after { view self.new.store ≡ idle_state n (view self.old.store) }
         ensures means { Idled (meaning_of (view self.old.store)) n result.0 result.1 (meaning_of (view self.new.store)) }
     {
-        let mut made = 0;
-        while made < n {
-            made += 1;
+        for made in 0..n {
             if self.step() {
-                return (made, true);
+                return (made + 1, true);
             }
         }
-        (made, false)
+        (n, false)
     }
 }
 

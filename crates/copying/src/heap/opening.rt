@@ -6,7 +6,8 @@ ghost use Rattle.graph.specs.Meaning.{Opened};
 ghost use Rattle.graph.specs.Tests.{tested};
 ghost use Rattle.semispace.specs.View.{view};
 ghost use Rattle.semispace.specs.Collected.{meaning_of};
-ghost use Rattle.semispace.specs.Opening.{bad_opening, opened, opened_meaning, opening_refusal};
+ghost use Rattle.graph.specs.Opening.{bad_opening};
+ghost use Rattle.semispace.specs.Opening.{opened, opened_meaning, opening_refusal};
 
 use super::Copying;
 use kinds::book::SealedBook;
@@ -30,10 +31,7 @@ impl<'m> Copying<'m> {
     pub fn opening(&self) -> Result<(), Refusal>
         ensures { tested result ≡ opening_refusal (view self.now.store) }
     {
-        if self.store.count == 0 {
-            return Err(Refusal::BadOpening);
-        }
-        Ok(())
+        self.store.slots.opening()
     }
 
     /// The lent words, all of them.

@@ -20,7 +20,7 @@ impl<'m> Space for Copying<'m> {
     ghost still = { λ h c n. refl };
 
     fn slots(&self) -> u32 {
-        self.store.count
+        self.store.slots.count()
     }
 
     fn kinds(&self) -> u32 {

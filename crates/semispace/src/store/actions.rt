@@ -1,20 +1,19 @@
 //! What accepted calls do to words and registers.
 
-ghost use Rattle.std.specs.Prelude.{◌≡◌, ◌+◌, ◌-◌, ◌<◌};
+ghost use Rattle.std.specs.Prelude.{◌≡◌, slice_index};
 ghost use Rattle.semispace.specs.View.{view};
 ghost use Rattle.semispace.specs.Words.{Forwardable, put_slot};
 ghost use Rattle.semispace.specs.Sound.{value};
-ghost use Rattle.semispace.specs.Callings.{words_after, held_at, Held, Led, Linkable, Makeable};
+ghost use Rattle.semispace.specs.Callings.{words_after, held_at, Held, Linkable, Makeable};
 ghost use Rattle.graph.specs.Calls.Call.{make as Make, write as Write, follow as Follow, link as Link, hold as Hold, drop as Dropped};
 
 use super::Store;
-
-const HEAD: u32 = 2;
+use graph::layout::HEAD;
 
 impl<'m> Store<'m> {
     /// Makes a record of the kind in the slot, at the high end of the new half; gives its number.
     pub fn make(&mut self, slot: u32, kind: u32) -> u32
-        requires { Makeable (view self.old) slot kind }
+        requires { Makeable (view self.old) kind }
         ensures number { result ≡ (view self.old).next }
         ensures after { view self.new ≡ words_after (view self.old) (Make slot kind) }
     {
@@ -22,12 +21,12 @@ impl<'m> Store<'m> {
         let at = self.place_record(kind, number);
         self.next += 1;
         self.spare -= HEAD + self.book.fields(kind);
-        self.slots[slot as usize] = at + 1;
+        self.slots.set(slot, at + 1);
         number
     }
 
-    #[tactic(auto, unfolding(crate::specs::Sound::value))]
     /// A field of the slot's record.
+    #[tactic(auto, unfolding(crate::specs::Sound::value))]
     pub fn read(&self, slot: u32, field: u32) -> u32
         requires { Held (view self.now) slot field }
         ensures { result ≡ value (view self.now) (held_at (view self.now) slot) field }
@@ -46,17 +45,16 @@ impl<'m> Store<'m> {
 
     /// Puts a reference into a slot: in a cycle the place, reserved if there is none.
     fn put_slot(&mut self, slot: u32, reference: u32)
-        requires { (slot < 64) × (Forwardable (view self.old) reference) }
+        requires { Forwardable (view self.old) reference }
         ensures { view self.new ≡ put_slot (view self.old) slot reference }
     {
         let put = self.forwarded(reference);
-        self.slots[slot as usize] = put;
+        self.slots.set(slot, put);
     }
 
     /// Puts what a reference field names into a slot.
     pub fn follow(&mut self, slot: u32, field: u32, to: u32)
         requires held { Held (view self.old) slot field }
-        requires to { to < 64 }
         requires led { Forwardable (view self.old) (value (view self.old) (held_at (view self.old) slot) field) }
         ensures { view self.new ≡ words_after (view self.old) (Follow slot field to) }
     {
@@ -77,7 +75,7 @@ impl<'m> Store<'m> {
 
     /// Puts what a slot holds into another.
     pub fn hold(&mut self, slot: u32, to: u32)
-        requires { Led (view self.old) slot to }
+        requires { Forwardable (view self.old) (slice_index (view self.old).slots slot) }
         ensures { view self.new ≡ words_after (view self.old) (Hold slot to) }
     {
         let held = self.slot(slot);
@@ -86,9 +84,8 @@ impl<'m> Store<'m> {
 
     /// Empties a slot.
     pub fn empty(&mut self, slot: u32)
-        requires { slot < 64 }
         ensures { view self.new ≡ words_after (view self.old) (Dropped slot) }
     {
-        self.slots[slot as usize] = 0;
+        self.slots.set(slot, 0);
     }
 }

@@ -1,13 +1,13 @@
 //! Where the fields of a half-moved record are, and the words of a new record.
 
 ghost use Rattle.std.specs.Prelude.{◌≡◌, ◌+◌, ◌-◌, ◌<◌, ◌≤◌};
+ghost use Rattle.graph.specs.Clearing.{cleared};
 ghost use Rattle.semispace.specs.View.{view};
-ghost use Rattle.semispace.specs.Words.{both_halves, word_at, put_at, front as Front, filled as Filled, own as Own, source as Source, home as Home, Found, zeros, set_memory, made_record, made_at, fields_of};
+ghost use Rattle.semispace.specs.Words.{both_halves, word_at, put_at, front as Front, filled as Filled, own as Own, source as Source, home as Home, Found, set_memory, made_record, made_at, fields_of};
 
 use super::Store;
 use crate::collector::Collector;
-
-const HEAD: u32 = 2;
+use graph::layout::HEAD;
 
 impl<'m> Store<'m> {
     /// Where the places begin that have not been closed, and how many fields of the first have been copied.
@@ -16,13 +16,9 @@ impl<'m> Store<'m> {
     {
         match self.collector {
             Collector::Rest => self.halves.base + self.halves.size,
-            Collector::Slots { next: _ } => self.halves.base,
+            Collector::Slots { .. } => self.halves.base,
             Collector::Scan { at } => at,
-            Collector::Field {
-                at,
-                from: _,
-                field: _,
-            } => at,
+            Collector::Field { cursor } => cursor.at,
         }
     }
 
@@ -30,11 +26,7 @@ impl<'m> Store<'m> {
         ensures { result ≡ Filled self.now.collector }
     {
         match self.collector {
-            Collector::Field {
-                at: _,
-                from: _,
-                field,
-            } => field,
+            Collector::Field { cursor } => cursor.field,
             _ => 0,
         }
     }
@@ -50,15 +42,12 @@ impl<'m> Store<'m> {
 
     /// The old record of a place.
     fn source(&self, at: u32) -> u32
-        requires { (at < both_halves (view self.now)) × (0 < word_at (view self.now) at) }
+        requires inside { at < both_halves (view self.now) }
+        requires some { 0 < word_at (view self.now) at }
         ensures { result ≡ Source (view self.now).memory self.now.collector at }
     {
         match self.collector {
-            Collector::Field {
-                at: scan,
-                from,
-                field: _,
-            } if at == scan => from,
+            Collector::Field { cursor } if at == cursor.at => cursor.from,
             _ => self.word(at) - 1,
         }
     }
@@ -76,12 +65,8 @@ impl<'m> Store<'m> {
             };
         }
         match self.place_of(at) {
-            0 => at,
-            place => if self.owns(place - 1, i) {
-                place - 1
-            } else {
-                at
-            },
+            Some(place) if self.owns(place - 1, i) => place - 1,
+            _ => at,
         }
     }
 
@@ -102,7 +87,7 @@ impl<'m> Store<'m> {
 
     fn clear_fields(&mut self, at: u32, fields: u32)
         requires { at + 2 + fields ≤ both_halves (view self.old) }
-        ensures { view self.new ≡ set_memory (view self.old) (zeros (view self.old).memory (at + 2) fields) }
+        ensures { view self.new ≡ set_memory (view self.old) (cleared (view self.old).memory (at + 2) fields) }
     {
         let first = (at + HEAD) as usize;
         self.memory[first..first + fields as usize].fill(0);
@@ -111,7 +96,8 @@ impl<'m> Store<'m> {
     /// Puts a record of the kind at the high end; gives its address.
     pub(super) fn place_record(&mut self, kind: u32, number: u32) -> u32
         requires { self.old.halves.low + (2 + fields_of (view self.old).book kind) ≤ self.old.halves.high }
-        ensures { (result ≡ made_at (view self.old) kind) × (view self.new ≡ made_record (view self.old) kind number) }
+        ensures at { result ≡ made_at (view self.old) kind }
+        ensures after { view self.new ≡ made_record (view self.old) kind number }
     {
         let fields = self.book.fields(kind);
         self.halves = self.halves.lowered(HEAD + fields);

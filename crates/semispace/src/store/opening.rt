@@ -3,31 +3,26 @@
 ghost use Rattle.std.specs.Prelude.{◌≡◌};
 ghost use Rattle.kinds.specs.Books.{kinds_of};
 ghost use Rattle.semispace.specs.View.{view};
-ghost use Rattle.semispace.specs.Opening.{bad_opening, opened};
+ghost use Rattle.semispace.specs.Opening.{opened};
 
-use super::{MAX_SLOTS, Store};
+use super::Store;
 use crate::collector::Collector;
 use crate::halves::Halves;
+use graph::slots::Slots;
 use kinds::book::SealedBook;
-
-/// The most words that a heap takes.
-const MAX_WORDS: usize = 16_384;
-
-/// Is the opening bad?
-fn is_bad(words: usize, slots: u32, first: u32) -> bool
-    ensures { result ≡ bad_opening words slots first }
-{
-    words > MAX_WORDS || slots == 0 || slots as usize > MAX_SLOTS || first == 0
-}
 
 impl<'m> Store<'m> {
     /// Empty slots over two halves of the lent words; no slots and halves of no words where the opening is bad.
     pub fn open(memory: &'m mut [u32], slots: u32, book: SealedBook, first: u32) -> Store<'m>
         ensures { view result ≡ opened memory.old slots (kinds_of book) first }
     {
-        let bad = is_bad(memory.len(), slots, first);
-        let count = if bad { 0 } else { slots };
-        let size = if bad { 0 } else { (memory.len() / 2) as u32 };
+        let words = memory.len();
+        let slots = Slots::open(words, slots, first);
+        let size = if slots.count() == 0 {
+            0
+        } else {
+            (words / 2) as u32
+        };
         let halves = Halves {
             size,
             base: 0,
@@ -38,8 +33,7 @@ impl<'m> Store<'m> {
         };
         Store {
             memory,
-            slots: [0; MAX_SLOTS],
-            count,
+            slots,
             book,
             next: first as u64,
             spare: size,

@@ -27,10 +27,9 @@ impl<'m> Store<'m> {
 
     /// The reference that a slot holds: 0, or 1 more than an address.
     pub fn slot(&self, slot: u32) -> u32
-        requires { slot < 64 }
         ensures { result ≡ slice_index (view self.now).slots slot }
     {
-        self.slots[slot as usize]
+        self.slots.get(slot)
     }
 
     /// The number of fields of a full slot's record.
@@ -58,8 +57,8 @@ impl<'m> Store<'m> {
             || at == self.front() && matches!(self.collector, Collector::Field { .. })
     }
 
-    #[tactic(auto, unfolding(crate::specs::Sound::number))]
     /// The number of the record at `at`: of a place that is not opened yet, its old record's.
+    #[tactic(auto, unfolding(crate::specs::Sound::number))]
     pub(crate) fn number(&self, at: u32) -> u32
         requires { Numbered (view self.now) at }
         ensures { result ≡ Number (view self.now) at }

@@ -2,14 +2,16 @@
 
 ghost use Rattle.std.specs.Prelude.{◌≡◌, ◌+◌, ◌-◌, ◌*◌, ◌/◌, ◌%◌, ◌<◌};
 ghost use Rattle.semispace.specs.View.{view};
-ghost use Rattle.semispace.specs.Words.{both_halves, word_at, put_at, kind_at, place_of, reserved, next_place, Room, target as Aim, Forwardable, forwarded_state, forwarded_reference, slots_from, started, Passable, passed, Openable, opened, fields_from, Writable, written, Copyable, copied_field, reserved_field, finished, transition, Ready, stepped, resting as Resting, Watched, fitting_field as FittingField};
+ghost use Rattle.semispace.specs.Words.{both_halves, word_at, put_at, kind_at, place_of, place_met, reserved, next_place, Room, target as Aim, Forwardable, forwarded_state, forwarded_reference, slots_from, started, Passable, passed, Openable, opened, fields_from, Writable, written, Copyable, copied_field, reserved_field, finished, transition, Ready, stepped, resting as Resting, Watched, fitting_field as FittingField};
 
 use super::Store;
 use crate::collector::{Collector, Target, Transition};
+use crate::cursor::Cursor;
+use graph::layout::HEAD;
+use kinds::book::MAX_KINDS;
 
-const HEAD: u32 = 2;
-
-const KINDS: u32 = 16;
+/// A record's second word is its kind and this many times the reference of its place.
+const KINDS: u32 = MAX_KINDS as u32;
 
 impl<'m> Store<'m> {
     pub(super) fn word(&self, at: u32) -> u32
@@ -33,12 +35,15 @@ impl<'m> Store<'m> {
         self.word(at + 1) % KINDS
     }
 
-    /// The reference of the place reserved for the record at `at`, or 0.
-    pub(super) fn place_of(&self, at: u32) -> u32
+    /// The reference of the place reserved for the record at `at`, if one is.
+    pub(super) fn place_of(&self, at: u32) -> Option<u32>
         requires { at + 1 < both_halves (view self.now) }
-        ensures { result ≡ place_of (view self.now) at }
+        ensures { result ≡ place_met (place_of (view self.now) at) }
     {
-        self.word(at + 1) / KINDS
+        match self.word(at + 1) / KINDS {
+            0 => None,
+            place => Some(place),
+        }
     }
 
     /// What a reference leads to.
@@ -50,15 +55,16 @@ impl<'m> Store<'m> {
             return Target::Settled;
         }
         match self.place_of(reference - 1) {
-            0 => Target::Unplaced,
-            place => Target::Placed { place },
+            Some(place) => Target::Placed { place },
+            None => Target::Unplaced,
         }
     }
 
     /// Takes the next words at the low end for the old record at `from`; gives the place's reference.
     pub(super) fn reserve(&mut self, from: u32) -> u32
         requires { Room (view self.old) from }
-        ensures { (result ≡ next_place (view self.old) + 1) × (view self.new ≡ reserved (view self.old) from) }
+        ensures place { result ≡ next_place (view self.old) + 1 }
+        ensures after { view self.new ≡ reserved (view self.old) from }
     {
         let kind = self.kind_at(from);
         let place = self.halves.base + self.halves.low;
@@ -72,7 +78,8 @@ impl<'m> Store<'m> {
     /// What a reference becomes when it is put anywhere in a cycle: the place, reserved if there is none.
     pub(super) fn forwarded(&mut self, reference: u32) -> u32
         requires { Forwardable (view self.old) reference }
-        ensures { (result ≡ forwarded_reference (view self.old) reference) × (view self.new ≡ forwarded_state (view self.old) reference) }
+        ensures reference { result ≡ forwarded_reference (view self.old) reference }
+        ensures after { view self.new ≡ forwarded_state (view self.old) reference }
     {
         match self.target(reference) {
             Target::Settled => reference,
@@ -84,7 +91,7 @@ impl<'m> Store<'m> {
     fn slots_from(&self, next: u32) -> Collector
         ensures { result ≡ slots_from (view self.now) next }
     {
-        if next < self.count {
+        if next < self.slots.count() {
             Collector::Slots { next }
         } else {
             Collector::Scan {
@@ -104,21 +111,22 @@ impl<'m> Store<'m> {
         requires { Passable (view self.old) next }
         ensures { view self.new ≡ passed (view self.old) next }
     {
-        let held = self.slots[next as usize];
-        self.slots[next as usize] = self.forwarded(held);
+        let held = self.slots.get(next);
+        let put = self.forwarded(held);
+        self.slots.set(next, put);
         self.collector = self.slots_from(next + 1);
     }
 
-    fn fields_from(&self, at: u32, from: u32, field: u32) -> Collector
-        requires { at + 1 < both_halves (view self.now) }
-        ensures { result ≡ fields_from (view self.now) at from field }
+    fn fields_from(&self, cursor: Cursor) -> Collector
+        requires { cursor.at + 1 < both_halves (view self.now) }
+        ensures { result ≡ fields_from (view self.now) cursor }
     {
-        let fields = self.book.fields(self.kind_at(at));
-        if field < fields {
-            Collector::Field { at, from, field }
+        let fields = self.book.fields(self.kind_at(cursor.at));
+        if cursor.field < fields {
+            Collector::Field { cursor }
         } else {
             Collector::Scan {
-                at: at + HEAD + fields,
+                at: cursor.at + HEAD + fields,
             }
         }
     }
@@ -130,23 +138,31 @@ impl<'m> Store<'m> {
         let from = self.word(at) - 1;
         let number = self.word(from);
         self.put(at, number);
-        self.collector = self.fields_from(at, from, 0);
+        self.collector = self.fields_from(Cursor { at, from, field: 0 });
     }
 
-    fn write_field(&mut self, at: u32, from: u32, field: u32, word: u32)
-        requires { Writable (view self.old) at field }
-        ensures { view self.new ≡ written (view self.old) at from field word }
+    /// The word of the cursor's field in the old copy.
+    fn met(&self, cursor: Cursor) -> u32
+        requires { Writable (view self.now) cursor.from cursor.field }
+        ensures { result ≡ word_at (view self.now) (cursor.from + 2 + cursor.field) }
     {
-        self.put(at + HEAD + field, word);
-        self.collector = self.fields_from(at, from, field + 1);
+        self.word(cursor.from + HEAD + cursor.field)
     }
 
-    fn copy_field(&mut self, at: u32, from: u32, field: u32)
-        requires { Copyable (view self.old) at from field }
-        ensures { view self.new ≡ copied_field (view self.old) at from field }
+    fn write_field(&mut self, cursor: Cursor, word: u32)
+        requires { Writable (view self.old) cursor.at cursor.field }
+        ensures { view self.new ≡ written (view self.old) cursor word }
     {
-        let met = self.word(from + HEAD + field);
-        self.write_field(at, from, field, met);
+        self.put(cursor.at + HEAD + cursor.field, word);
+        self.collector = self.fields_from(cursor.next());
+    }
+
+    fn copy_field(&mut self, cursor: Cursor)
+        requires { Copyable (view self.old) cursor }
+        ensures { view self.new ≡ copied_field (view self.old) cursor }
+    {
+        let met = self.met(cursor);
+        self.write_field(cursor, met);
     }
 
     fn finish(&mut self)
@@ -163,6 +179,7 @@ impl<'m> Store<'m> {
     }
 
     /// The transition that fits.
+    // Kept: the collector's state, matched in place with the field met, chooses the transition; that is a rule of the project.
     fn fitting(&self) -> Transition
         requires { Watched (view self.now) (view self.now).collector }
         ensures { result ≡ transition (view self.now) }
@@ -177,58 +194,52 @@ impl<'m> Store<'m> {
                     Transition::Done
                 }
             }
-            Collector::Field { at, from, field } => self.fitting_field(at, from, field),
+            Collector::Field { cursor } => self.fitting_field(cursor),
         }
     }
 
-    fn fitting_field(&self, at: u32, from: u32, field: u32) -> Transition
-        requires { Watched (view self.now) (Collector.Field at from field) }
-        ensures { result ≡ FittingField (view self.now) at from field }
+    fn fitting_field(&self, cursor: Cursor) -> Transition
+        requires { Watched (view self.now) (Collector.Field cursor) }
+        ensures { result ≡ FittingField (view self.now) cursor }
     {
-        if !self.book.refers(self.kind_at(from), field) {
-            return Transition::Word { at, from, field };
+        if !self.book.refers(self.kind_at(cursor.from), cursor.field) {
+            return Transition::Word { cursor };
         }
-        match self.target(self.word(from + HEAD + field)) {
-            Target::Settled => Transition::Keep { at, from, field },
-            Target::Placed { place } => Transition::Forward {
-                at,
-                from,
-                field,
-                place,
-            },
-            Target::Unplaced => Transition::Reserve { at, from, field },
+        match self.target(self.met(cursor)) {
+            Target::Settled => Transition::Keep { cursor },
+            Target::Placed { place } => Transition::Forward { cursor, place },
+            Target::Unplaced => Transition::Reserve { cursor },
         }
     }
 
     /// Makes one step; says whether it ended a cycle.
+    // Kept: a match on the eight transitions runs the one that was chosen; that is a rule of the project.
     pub fn step(&mut self) -> bool
         requires { Ready (view self.old) }
-        ensures { (view self.new ≡ stepped (view self.old)) × (result ≡ Resting (view self.new).collector) }
+        ensures after { view self.new ≡ stepped (view self.old) }
+        ensures ended { result ≡ Resting (view self.new).collector }
     {
         match self.fitting() {
             Transition::Start => self.start(),
             Transition::Slot { next } => self.pass_slot(next),
             Transition::Open { at } => self.open_place(at),
-            Transition::Word { at, from, field } => self.copy_field(at, from, field),
-            Transition::Keep { at, from, field } => self.copy_field(at, from, field),
-            Transition::Forward {
-                at,
-                from,
-                field,
-                place,
-            } => self.write_field(at, from, field, place),
-            Transition::Reserve { at, from, field } => self.reserve_field(at, from, field),
+            Transition::Word { cursor } => self.copy_field(cursor),
+            Transition::Keep { cursor } => self.copy_field(cursor),
+            Transition::Forward { cursor, place } => self.write_field(cursor, place),
+            Transition::Reserve { cursor } => self.reserve_field(cursor),
             Transition::Done => self.finish(),
         }
         self.resting()
     }
 
-    fn reserve_field(&mut self, at: u32, from: u32, field: u32)
-        requires { (Copyable (view self.old) at from field) × ((0 < word_at (view self.old) (from + 2 + field)) × (Room (view self.old) (word_at (view self.old) (from + 2 + field) - 1))) }
-        ensures { view self.new ≡ reserved_field (view self.old) at from field }
+    fn reserve_field(&mut self, cursor: Cursor)
+        requires copyable { Copyable (view self.old) cursor }
+        requires some { 0 < word_at (view self.old) (cursor.from + 2 + cursor.field) }
+        requires room { Room (view self.old) (word_at (view self.old) (cursor.from + 2 + cursor.field) - 1) }
+        ensures { view self.new ≡ reserved_field (view self.old) cursor }
     {
-        let met = self.word(from + HEAD + field);
+        let met = self.met(cursor);
         let place = self.reserve(met - 1);
-        self.write_field(at, from, field, place);
+        self.write_field(cursor, place);
     }
 }

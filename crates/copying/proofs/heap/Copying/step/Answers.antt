@@ -18,7 +18,7 @@ pub invariant_of-self : goal.invariant_of-self
 invariant_of-self c =
     let P : State → Type 0 = λ s. ∥ Whole s ∥₁ in
     let s = view c.args.self.now.store in
-    record { whole = subst P (sym c.step.ensures.0) (∥∥₁_map c.args.self.now.whole (λ W. record { sound = step_sound s W.sound; known = step_known s W.sound W.known })) }
+    record { whole = subst P (sym c.step.ensures.after) (∥∥₁_map c.args.self.now.whole (λ W. record { sound = step_sound s W.sound; known = step_known s W.sound W.known })) }
 
 pub returns : goal.returns
-returns c = record { after = c.step.ensures.0; ended = c.step.ensures.1; means = step_report (view c.args.self.now.store) _ c.args.self.now.whole c.step.ensures.0 }
+returns c = record { after = c.step.ensures.after; ended = c.step.ensures.ended; means = step_report (view c.args.self.now.store) _ c.args.self.now.whole c.step.ensures.after }

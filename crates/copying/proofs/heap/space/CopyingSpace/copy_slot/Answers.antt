@@ -1,15 +1,15 @@
 use Rattle.std.proofs.Common.{refl}
 use Rattle.graph.specs.Calls.{hold, done}
-use Rattle.kinds.proofs.Sealed.{few_kinds}
 use Rattle.semispace.specs.View.{view}
-use Rattle.semispace.proofs.Answering.{after_whole, after_called, hold_led}
+use Rattle.semispace.proofs.Answering.{hold_led}
+use Rattle.copying.proofs.Called.{kept, called}
 use Rattle.copying.proofs.heap.space.CopyingSpace.copy_slot.Goals as goal
 
 pub hold-requires : goal.hold-requires
 hold-requires c = hold_led (view c.args.self.now.store) c.args.self.now.whole c.args.slot c.args.to c.requires
 
 pub invariant_of-self : goal.invariant_of-self
-invariant_of-self c = record { whole = after_whole (view c.args.self.now.store) c.args.self.now.whole (few_kinds c.args.self.now.store.book) (view c.hold.new.self) (hold c.args.slot c.args.to) c.requires c.hold.ensures }
+invariant_of-self c = record { whole = kept c.args.self.now (hold c.args.slot c.args.to) c.requires c.hold.ensures }
 
 pub returns-clause-means : goal.returns-clause-means
-returns-clause-means c = after_called (view c.args.self.now.store) c.args.self.now.whole (few_kinds c.args.self.now.store.book) (view c.hold.new.self) (hold c.args.slot c.args.to) (done) c.requires (refl) c.hold.ensures
+returns-clause-means c = called c.args.self.now (hold c.args.slot c.args.to) c.requires done refl c.hold.ensures

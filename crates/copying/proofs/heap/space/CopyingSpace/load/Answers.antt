@@ -1,12 +1,12 @@
 use Rattle.std.proofs.Common.{refl, ap}
 use Rattle.graph.specs.Calls.{read, word}
-use Rattle.kinds.proofs.Sealed.{few_kinds}
 use Rattle.semispace.specs.View.{view}
-use Rattle.semispace.proofs.Answering.{after_called, read_held}
+use Rattle.semispace.proofs.Answering.{read_held}
+use Rattle.copying.proofs.Called.{called}
 use Rattle.copying.proofs.heap.space.CopyingSpace.load.Goals as goal
 
 pub read-requires : goal.read-requires
 read-requires c = read_held (view c.args.self.now.store) c.args.self.now.whole c.args.slot c.args.field c.requires
 
 pub returns-clause-means : goal.returns-clause-means
-returns-clause-means c = after_called (view c.args.self.now.store) c.args.self.now.whole (few_kinds c.args.self.now.store.book) (view c.args.self.now.store) (read c.args.slot c.args.field) (word c.read.result) c.requires (ap word c.read.ensures) refl
+returns-clause-means c = called c.args.self.now (read c.args.slot c.args.field) c.requires (word c.read.result) (ap word c.read.ensures) refl

@@ -1,15 +1,15 @@
 use Rattle.std.proofs.Common.{refl}
 use Rattle.graph.specs.Calls.{follow, done}
-use Rattle.kinds.proofs.Sealed.{few_kinds}
 use Rattle.semispace.specs.View.{view}
-use Rattle.semispace.proofs.Answering.{after_whole, after_called, follow_held}
+use Rattle.semispace.proofs.Answering.{follow_held}
+use Rattle.copying.proofs.Called.{kept, called}
 use Rattle.copying.proofs.heap.space.CopyingSpace.load_reference.Goals as goal
 
 pub follow-requires : goal.follow-requires
-follow-requires c = let h = follow_held (view c.args.self.now.store) c.args.self.now.whole c.args.slot c.args.field c.args.to c.requires in record { held = h.0; to = h.1; led = h.2 }
+follow-requires c = let h = follow_held (view c.args.self.now.store) c.args.self.now.whole c.args.slot c.args.field c.args.to c.requires in record { held = h.0; led = h.1 }
 
 pub invariant_of-self : goal.invariant_of-self
-invariant_of-self c = record { whole = after_whole (view c.args.self.now.store) c.args.self.now.whole (few_kinds c.args.self.now.store.book) (view c.follow.new.self) (follow c.args.slot c.args.field c.args.to) c.requires c.follow.ensures }
+invariant_of-self c = record { whole = kept c.args.self.now (follow c.args.slot c.args.field c.args.to) c.requires c.follow.ensures }
 
 pub returns-clause-means : goal.returns-clause-means
-returns-clause-means c = after_called (view c.args.self.now.store) c.args.self.now.whole (few_kinds c.args.self.now.store.book) (view c.follow.new.self) (follow c.args.slot c.args.field c.args.to) (done) c.requires (refl) c.follow.ensures
+returns-clause-means c = called c.args.self.now (follow c.args.slot c.args.field c.args.to) c.requires done refl c.follow.ensures
