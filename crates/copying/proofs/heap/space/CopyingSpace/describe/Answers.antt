@@ -1,4 +1,5 @@
-use Rattle.std.proofs.Common.{◌≡◌, ◌<◌, ◌≤◌, eqb, get_or, sym, refl, ap, ◌∙◌, subst, arith}
+use Rattle.std.proofs.Common.{◌≡◌, ◌<◌, eqb, get_or, sym, refl, ap, ◌∙◌, arith}
+use Rattle.kinds.proofs.Sealed.{few_kinds}
 use Rattle.std.proofs.lemmas.Bool.{cond-true, cond-false, eq-eqb, ne_eqb}
 use Rattle.graph.specs.Calls.{look, known}
 use Rattle.semispace.specs.Words.{kind_at}
@@ -22,7 +23,7 @@ returns-then-slot-eq0 c =
     let s = view c.args.self.now.store in
     let e : get_or s.slots c.args.slot 0 ≡ 0 = sym c.slot.ensures ∙ c.if-slot-eq0.true in
     let a : known 0 0 ≡ words_answer s (look c.args.slot) = sym (cond-true (eqb (get_or s.slots c.args.slot 0) 0) (known 0 0) _ (eq-eqb (get_or s.slots c.args.slot 0) 0 e)) in
-    record { means = after_called s c.args.self.now.whole (subst (λ n. n ≤ 16) (sym c.args.self.now.store.book.counted) c.args.self.now.store.book.few) s (look c.args.slot) (known 0 0) c.requires a refl; acts = (a, refl) }
+    record { means = after_called s c.args.self.now.whole (few_kinds c.args.self.now.store.book) s (look c.args.slot) (known 0 0) c.requires a refl; acts = (a, refl) }
 
 pub returns : goal.returns
 returns c =
@@ -33,4 +34,4 @@ returns c =
     let a : known x.0 x.1 ≡ words_answer s (look c.args.slot) =
     ap (λ n. known n x.1) c.described.ensures.number ∙ ap (λ n. known (number s p) n) c.described.ensures.kind
     ∙ sym (cond-false (eqb (get_or s.slots c.args.slot 0) 0) (known 0 0) (known (number s p) (kind_at s p)) (ne_eqb (get_or s.slots c.args.slot 0) 0 ne)) in
-    record { means = after_called s c.args.self.now.whole (subst (λ n. n ≤ 16) (sym c.args.self.now.store.book.counted) c.args.self.now.store.book.few) s (look c.args.slot) (known x.0 x.1) c.requires a refl; acts = (a, refl) }
+    record { means = after_called s c.args.self.now.whole (few_kinds c.args.self.now.store.book) s (look c.args.slot) (known x.0 x.1) c.requires a refl; acts = (a, refl) }
