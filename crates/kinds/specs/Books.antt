@@ -2,14 +2,18 @@
 use Rattle.std.specs.Prelude.{ℕ, cond, List, [], ◌∷◌, ◌++◌, length, Ok, Err, Result, nat_lt, slice_index_or}
 use Rattle.kinds.specs.declared.book.Book.{Book}
 use Rattle.kinds.specs.declared.book.SealedBook.{SealedBook}
+use Rattle.kinds.specs.declared.book.rows.Rows.{Rows}
 use Rattle.kinds.specs.Shapes.{Shape, no_shape}
 use Rattle.kinds.specs.Rows.{shapes}
 
+abbrev pub listed : Rows → List Shape
+listed rows = shapes rows.places rows.count
+
 abbrev pub book_list : Book → List Shape
-book_list b = shapes b.rows b.count
+book_list b = listed b.rows
 
 abbrev pub kinds_of : SealedBook → List Shape
-kinds_of b = shapes b.rows b.count
+kinds_of b = listed b.rows
 
 -- The number that an accepted kind gets in a book of these kinds. A full book refuses it, by 11.
 abbrev pub numbered : List Shape → Result Shape ℕ → Result ℕ ℕ

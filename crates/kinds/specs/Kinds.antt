@@ -3,11 +3,12 @@ use Rattle.std.specs.Prelude.{ℕ, cond, Some, None, Ok, Err, Option, Result}
 use Rattle.kinds.specs.declared.kind.Kind.{Kind}
 use Rattle.kinds.specs.declared.row.Row.{Row}
 use Rattle.kinds.specs.Shapes.{Shape}
-use Rattle.kinds.specs.Rows.{row_shape, row_lawful, row_of}
+use Rattle.kinds.specs.Numbered.{four_runs}
+use Rattle.kinds.specs.Rows.{row_shape, row_lawful}
 
 -- The row of a kind's numbers, and its shape.
 abbrev pub kind_row : Kind → Row
-kind_row k = row_of k.fields k.runs k.offset_0 k.length_0 k.offset_1 k.length_1 k.offset_2 k.length_2 k.offset_3 k.length_3
+kind_row k = record { fields = k.fields; places = four_runs k.offset_0 k.length_0 k.offset_1 k.length_1 k.offset_2 k.length_2 k.offset_3 k.length_3; count = k.runs; few = k.few }
 
 abbrev pub shape_of : Kind → Shape
 shape_of k = row_shape (kind_row k)

@@ -1,7 +1,9 @@
 pub mod Shapes
 pub mod Refusals
 pub mod Written
+pub mod Runs
 pub mod Rows
+pub mod Numbered
 pub mod Read
 pub mod Kinds
 pub mod Said

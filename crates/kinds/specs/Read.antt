@@ -1,5 +1,5 @@
 -- What reading a row from numbers gives.
-use Rattle.std.specs.Prelude.{ℕ, ◌≤◌, Bool, List, length, Some, None, Option, nat_le}
+use Rattle.std.specs.Prelude.{ℕ, Bool, List, length, Some, None, Option, nat_le}
 use Rattle.kinds.specs.declared.row.Row.{Row}
 use Rattle.kinds.specs.Shapes.{Shape}
 use Rattle.kinds.specs.Rows.{row_shape}
@@ -16,8 +16,3 @@ taken numbers = read_by has_row numbers
 abbrev pub row_read : Option Row → Option Shape
 row_read None = None
 row_read (Some r) = Some (row_shape r)
-
--- The row names at most four runs.
-abbrev pub Placed : Option Row → Type 0
-Placed None = Unit {0}
-Placed (Some r) = r.runs ≤ 4

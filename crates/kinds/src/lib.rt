@@ -8,5 +8,6 @@ pub mod laws;
 pub mod numbers;
 pub mod refusal;
 pub mod row;
+pub mod run;
 #[cfg(test)]
 mod tests;

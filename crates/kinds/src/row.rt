@@ -1,5 +1,9 @@
 //! What a book keeps of one kind, as plain numbers.
 
+ghost use Rattle.std.specs.Prelude.{◌≤◌};
+
+use crate::run::Run;
+
 pub mod questions;
 pub mod reading;
 pub mod rules;
@@ -9,19 +13,14 @@ pub mod runs;
 pub const MAX_FIELDS: u32 = 62;
 
 /// The most runs of reference fields that a kind has.
-pub const MAX_RUNS: u32 = 4;
+pub const MAX_RUNS: usize = 4;
 
-/// The number of fields, the number of runs, and the runs in their order. A place past the number of runs is not used.
+/// The number of fields, four places for a run, and how many of them hold one, the first ones. A place past them is not used.
+// Kept: an array and its count, since a row lies in fixed memory and is copied, and an ArrayVec is not Copy.
 #[derive(Clone, Copy)]
 pub struct Row {
     pub(crate) fields: u32,
-    pub(crate) runs: u32,
-    pub(crate) offset_0: u32,
-    pub(crate) length_0: u32,
-    pub(crate) offset_1: u32,
-    pub(crate) length_1: u32,
-    pub(crate) offset_2: u32,
-    pub(crate) length_2: u32,
-    pub(crate) offset_3: u32,
-    pub(crate) length_3: u32,
+    pub(crate) places: [Run; MAX_RUNS],
+    pub(crate) count: u32,
+    ghost few: { count ≤ 4 },
 }

@@ -2,19 +2,17 @@
 
 use crate::book::Book;
 use crate::kind::Kind;
+use crate::refusal::Refusal;
 use std::test::Fail;
 
-/// The number of the refusal, or 0 for a kind.
-fn refused(numbers: &[u32]) -> u32 {
-    match Kind::new(numbers) {
-        Ok(_) => 0,
-        Err(refusal) => refusal.number(),
-    }
+/// The number of the refusal; none for numbers that write a kind.
+fn refused(numbers: &[u32]) -> Option<u32> {
+    Kind::try_from(numbers).err().map(Refusal::number)
 }
 
 #[test]
 fn two_runs(rt: HostRuntime) -> Result<(), Fail> {
-    let kind = Kind::new(&[3, 0, 1, 2, 1])?;
+    let kind = Kind::try_from(&[3, 0, 1, 2, 1][..])?;
     assert!(rt; kind.refers(0));
     assert!(rt; !kind.refers(1));
     assert!(rt; kind.refers(2));
@@ -23,15 +21,15 @@ fn two_runs(rt: HostRuntime) -> Result<(), Fail> {
 
 #[test]
 fn no_kinds(rt: HostRuntime) {
-    assert_eq!(rt; refused(&[3, 0, 2, 2, 1]), 11, "the runs touch");
-    assert_eq!(rt; refused(&[3, 2, 2]), 11, "the run passes the fields");
-    assert_eq!(rt; refused(&[3, 0, 1, 2]), 11, "a lone last number");
+    assert_eq!(rt; refused(&[3, 0, 2, 2, 1]), Some(11), "the runs touch");
+    assert_eq!(rt; refused(&[3, 2, 2]), Some(11), "the run passes the fields");
+    assert_eq!(rt; refused(&[3, 0, 1, 2]), Some(11), "a lone last number");
     assert_eq!(rt;
         refused(&[9, 0, 1, 2, 1, 4, 1, 6, 1, 8, 1]),
-        11,
+        Some(11),
         "a fifth run"
     );
-    assert_eq!(rt; refused(&[]), 11, "no number");
+    assert_eq!(rt; refused(&[]), Some(11), "no number");
 }
 
 #[test]
@@ -40,12 +38,11 @@ fn full_book(rt: HostRuntime) -> Result<(), Fail> {
     for _ in 0..16 {
         book.add(&[1])?;
     }
-    match book.add(&[1]) {
-        Ok(_) => Err(Fail::new("a 17th kind")),
-        Err(refusal) => {
-            assert_eq!(rt; refusal.number(), 11);
-            assert_eq!(rt; book.seal().kinds(), 16);
-            Ok(())
-        }
-    }
+    assert_eq!(rt;
+        book.add(&[1]).map_err(Refusal::number),
+        Err(11),
+        "a 17th kind"
+    );
+    assert_eq!(rt; book.seal().kinds(), 16);
+    Ok(())
 }

@@ -1,15 +1,14 @@
 //! The kinds of a sealed book.
 
-ghost use Rattle.std.specs.Prelude.{◌≡◌, ◌<◌, ◌≤◌, length, get_or, Some, slice_index_or};
+ghost use Rattle.std.specs.Prelude.{◌≡◌, ◌≤◌, length, get_or};
 ghost use Rattle.kinds.specs.Shapes.{no_shape, within};
 ghost use Rattle.kinds.specs.Said.{said};
-ghost use Rattle.kinds.specs.Kinds.{shape_of, row_kind};
+ghost use Rattle.kinds.specs.Kinds.{shape_of};
 ghost use Rattle.kinds.specs.Books.{kinds_of, looked_up};
 
 use super::SealedBook;
 use crate::kind::Kind;
 use crate::refusal::Refusal;
-use crate::row::Row;
 
 impl SealedBook {
     /// How many kinds the book has.
@@ -17,26 +16,15 @@ impl SealedBook {
         ensures count { result ≡ length (kinds_of self.now) }
         ensures few { result ≤ 16 }
     {
-        self.count
-    }
-
-    /// The row of a number below the number of kinds.
-    fn row(&self, k: u32) -> Row
-        requires { k < length (kinds_of self.now) }
-        ensures { row_kind result ≡ Some (slice_index_or (kinds_of self.now) k no_shape) }
-    {
-        self.rows[k as usize]
+        self.rows.len()
     }
 
     /// The kind of number `k`, from its row, after a check of that.
     pub fn kind(&self, k: u32) -> Result<Kind, Refusal>
         ensures { said shape_of result ≡ looked_up (kinds_of self.now) k }
     {
-        if k < self.kinds() {
-            Kind::from_row(self.row(k))
-        } else {
-            Err(Refusal::NoKind)
-        }
+        let row = self.rows.get(k).ok_or(Refusal::NoKind)?;
+        Kind::try_from(row)
     }
 
     /// How many fields the records of kind `k` have, at most 62; 0 where the book has no such kind.
@@ -44,19 +32,13 @@ impl SealedBook {
         ensures fields { result ≡ (get_or (kinds_of self.now) k no_shape).fields }
         ensures few { result ≤ 62 }
     {
-        match self.kind(k) {
-            Ok(kind) => kind.fields(),
-            Err(_) => 0,
-        }
+        self.kind(k).map_or(0, |kind| kind.fields())
     }
 
     /// Is a field of kind `k` a reference? None is where the book has no such kind.
     pub fn refers(&self, k: u32, field: u32) -> bool
         ensures { result ≡ within (get_or (kinds_of self.now) k no_shape).runs field }
     {
-        match self.kind(k) {
-            Ok(kind) => kind.refers(field),
-            Err(_) => false,
-        }
+        self.kind(k).is_ok_and(|kind| kind.refers(field))
     }
 }

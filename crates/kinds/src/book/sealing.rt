@@ -10,7 +10,7 @@ impl Book {
     pub fn seal(self) -> SealedBook
         ensures { kinds_of result ≡ book_list self }
     {
-        let Book { rows, count } = self;
-        SealedBook { rows, count }
+        let Book { rows } = self;
+        SealedBook { rows }
     }
 }

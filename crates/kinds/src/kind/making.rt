@@ -8,55 +8,61 @@ ghost use Rattle.kinds.specs.Kinds.{shape_of, accepted, kind_row, row_kind};
 use super::Kind;
 use crate::refusal::Refusal;
 use crate::row::Row;
+use crate::run::Run;
 
-impl Kind {
-    /// The kind of a row that keeps the rules.
-    pub fn from_row(row: Row) -> Result<Kind, Refusal>
-        ensures { said shape_of result ≡ accepted (row_kind row) }
-    {
+/// The kind of a row that keeps the rules.
+impl TryFrom<Row> for Kind {
+    type Error = Refusal;
+
+    ghost try_from_gives = { λ row result. said shape_of result ≡ accepted (row_kind row) };
+
+    fn try_from(row: Row) -> Result<Kind, Refusal> {
         if row.lawful() {
+            let [run_0, run_1, run_2, run_3] = row.places;
             Ok(Kind {
                 fields: row.fields,
-                runs: row.runs,
-                offset_0: row.offset_0,
-                length_0: row.length_0,
-                offset_1: row.offset_1,
-                length_1: row.length_1,
-                offset_2: row.offset_2,
-                length_2: row.length_2,
-                offset_3: row.offset_3,
-                length_3: row.length_3,
+                runs: row.count,
+                offset_0: run_0.offset,
+                length_0: run_0.length,
+                offset_1: run_1.offset,
+                length_1: run_1.length,
+                offset_2: run_2.offset,
+                length_2: run_2.length,
+                offset_3: run_3.offset,
+                length_3: run_3.length,
             })
         } else {
             Err(Refusal::BadKind)
         }
     }
+}
 
-    /// The row of the kind.
-    pub fn row(&self) -> Row
-        ensures { result ≡ kind_row self.now }
-    {
+/// The row of the kind.
+impl From<Kind> for Row {
+    ghost from_gives = { λ kind row. row ≡ kind_row kind };
+
+    fn from(kind: Kind) -> Row {
         Row {
-            fields: self.fields,
-            runs: self.runs,
-            offset_0: self.offset_0,
-            length_0: self.length_0,
-            offset_1: self.offset_1,
-            length_1: self.length_1,
-            offset_2: self.offset_2,
-            length_2: self.length_2,
-            offset_3: self.offset_3,
-            length_3: self.length_3,
+            fields: kind.fields,
+            places: [
+                Run::new(kind.offset_0, kind.length_0),
+                Run::new(kind.offset_1, kind.length_1),
+                Run::new(kind.offset_2, kind.length_2),
+                Run::new(kind.offset_3, kind.length_3),
+            ],
+            count: kind.runs,
         }
     }
+}
 
-    /// The kind that the numbers write: the number of fields, then pairs of offset and length.
-    pub fn new(numbers: &[u32]) -> Result<Kind, Refusal>
-        ensures { said shape_of result ≡ accepted (written numbers.now) }
-    {
-        match Row::read(numbers) {
-            Some(row) => Kind::from_row(row),
-            None => Err(Refusal::BadKind),
-        }
+/// The kind that the numbers write: the number of fields, then pairs of offset and length.
+impl TryFrom<&[u32]> for Kind {
+    type Error = Refusal;
+
+    ghost try_from_gives = { λ numbers result. said shape_of result ≡ accepted (written numbers.now) };
+
+    fn try_from(numbers: &[u32]) -> Result<Kind, Refusal> {
+        let row = Row::read(numbers).ok_or(Refusal::BadKind)?;
+        Kind::try_from(row)
     }
 }

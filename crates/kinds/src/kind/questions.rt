@@ -5,6 +5,7 @@ ghost use Rattle.kinds.specs.Shapes.{within};
 ghost use Rattle.kinds.specs.Kinds.{shape_of};
 
 use super::Kind;
+use crate::row::Row;
 
 impl Kind {
     /// The number of fields, at most 62.
@@ -19,6 +20,6 @@ impl Kind {
     pub fn refers(&self, field: u32) -> bool
         ensures { result ≡ within (shape_of self.now).runs field }
     {
-        self.row().refers(field)
+        Row::from(*self).refers(field)
     }
 }

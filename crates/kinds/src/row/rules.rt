@@ -1,32 +1,23 @@
 //! Does a row keep the rules of a kind?
 
-ghost use Rattle.std.specs.Prelude.{◌≡◌, ◌+◌, ◌<◌, ◌≤◌, ◌&&◌, nat_le};
+ghost use Rattle.std.specs.Prelude.{◌≡◌, ◌≤◌};
 ghost use Rattle.kinds.specs.Rows.{row_lawful, row_runs};
 ghost use Rattle.kinds.specs.Shapes.{runs_fit};
 
-use super::{MAX_FIELDS, MAX_RUNS, Row};
-
-/// Does a run begin at `low` or later, have a field, and end inside the fields?
-fn run_fits(low: u32, fields: u32, offset: u32, length: u32) -> bool
-    ensures { result ≡ (nat_le low offset && (nat_le 1 length && nat_le (offset + length) fields)) }
-{
-    low <= offset && 1 <= length && offset <= fields && length <= fields - offset
-}
+use super::{MAX_FIELDS, Row};
 
 impl Row {
     /// Does each run fit, and begin past the end of the run before?
     fn runs_fit(&self) -> bool
-        requires fields { self.now.fields ≤ 62 }
-        requires runs { self.now.runs ≤ 4 }
+        requires { self.now.fields ≤ 62 }
         ensures { result ≡ runs_fit 0 self.now.fields (row_runs self.now) }
     {
         let mut low = 0;
-        for j in 0..self.runs {
-            let (offset, length) = self.run(j);
-            if !run_fits(low, self.fields, offset, length) {
+        for run in self.runs() {
+            if !run.fits(low, self.fields) {
                 return false;
             }
-            low = offset + length + 1;
+            low = run.end() + 1;
         }
         true
     }
@@ -35,6 +26,6 @@ impl Row {
     pub(crate) fn lawful(&self) -> bool
         ensures { result ≡ row_lawful self.now }
     {
-        self.fields <= MAX_FIELDS && self.runs <= MAX_RUNS && self.runs_fit()
+        self.fields <= MAX_FIELDS && self.runs_fit()
     }
 }

@@ -1,58 +1,46 @@
-//! A row's runs, one by one.
+//! The runs of a row.
 
-ghost use Rattle.std.specs.Prelude.{◌≡◌, ◌+◌, ◌<◌, [], ◌∷◌, ◌++◌, slice_index_or, slice_set};
-ghost use Rattle.kinds.specs.Rows.{row_runs, places};
+ghost use Rattle.std.specs.Prelude.{◌≡◌, ◌<◌, [], ◌∷◌, ◌++◌, length, take, nat_le};
+ghost use Rattle.kinds.specs.Runs.{run_pair};
+ghost use Rattle.kinds.specs.Rows.{row_runs};
 
-use super::Row;
+use super::{MAX_RUNS, Row};
+use crate::run::Run;
 
 impl Row {
     /// A row with so many fields and no run.
     pub(crate) fn new(fields: u32) -> Row
         ensures fields { result.fields ≡ fields }
-        ensures runs { result.runs ≡ 0 }
-        ensures places { places result ≡ (0, 0) ∷ (0, 0) ∷ (0, 0) ∷ (0, 0) ∷ [] }
+        ensures runs { row_runs result ≡ [] }
     {
         Row {
             fields,
-            runs: 0,
-            offset_0: 0,
-            length_0: 0,
-            offset_1: 0,
-            length_1: 0,
-            offset_2: 0,
-            length_2: 0,
-            offset_3: 0,
-            length_3: 0,
+            places: [Run::default(); MAX_RUNS],
+            count: 0,
         }
     }
 
-    /// The offset and the length in place `j`.
-    pub(super) fn run(&self, j: u32) -> (u32, u32)
-        ensures { result ≡ slice_index_or (places self.now) j (0, 0) }
+    /// The runs in their order.
+    pub(crate) fn runs(&self) -> &[Run]
+        ensures { result.now ≡ take self.now.count self.now.places }
     {
-        match j {
-            0 => (self.offset_0, self.length_0),
-            1 => (self.offset_1, self.length_1),
-            2 => (self.offset_2, self.length_2),
-            3 => (self.offset_3, self.length_3),
-            _ => (0, 0),
-        }
+        &self.places[..self.count as usize]
+    }
+
+    /// Has each place a run?
+    pub(crate) fn is_full(&self) -> bool
+        ensures { result ≡ nat_le 4 (length (row_runs self.now)) }
+    {
+        self.count as usize >= MAX_RUNS
     }
 
     /// Adds a run after the others; a fifth has no place.
-    pub(super) fn push(&mut self, offset: u32, length: u32)
-        requires { self.old.runs < 4 }
+    pub(crate) fn push(&mut self, run: Run)
+        requires { length (row_runs self.old) < 4 }
         ensures fields { self.new.fields ≡ self.old.fields }
-        ensures count { self.new.runs ≡ self.old.runs + 1 }
-        ensures runs { row_runs self.new ≡ row_runs self.old ++ ((offset, length) ∷ []) }
-        ensures places { places self.new ≡ slice_set (places self.old) self.old.runs (offset, length) }
+        ensures runs { row_runs self.new ≡ row_runs self.old ++ (run_pair run ∷ []) }
     {
-        match self.runs {
-            0 => (self.offset_0, self.length_0) = (offset, length),
-            1 => (self.offset_1, self.length_1) = (offset, length),
-            2 => (self.offset_2, self.length_2) = (offset, length),
-            _ => (self.offset_3, self.length_3) = (offset, length),
-        }
-        self.runs += 1;
+        self.places[self.count as usize] = run;
+        self.count += 1;
     }
 }

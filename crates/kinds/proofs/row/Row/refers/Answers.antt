@@ -1,20 +1,22 @@
-use Rattle.std.proofs.Common.{◌+◌, drop, sym, ap, ◌∙◌}
+use Rattle.std.proofs.Common.{◌≡◌, ℕ, ◌+◌, Bool, ◌&&◌, ◌||◌, ltb, leb, List, [], ◌∷◌, map, refl, ap, ◌∙◌, rules, tests}
+use Rattle.std.specs.List.{list_any}
+use Rattle.std.proofs.lemmas.Iterator.{YieldsList-from_slice}
+use Rattle.std.proofs.lemmas.Iterator.Search.{any_from_yields_List}
+use Rattle.kinds.specs.declared.run.Run.{Run}
 use Rattle.kinds.specs.Shapes.{within}
-use Rattle.kinds.specs.Rows.{row_runs}
-use Rattle.kinds.proofs.Fitting.{runs_from, runs_past, within_first}
+use Rattle.kinds.specs.Runs.{run_pair}
 use Rattle.kinds.proofs.row.Row.refers.Goals as goal
 
-pub returns-then-in_run : goal.returns-then-in_run
-returns-then-in_run c =
-    sym (within_first c.run-offset.result (drop (c.loop-j.j + 1) (row_runs c.args.self.now)) c.args.field _ c.if-in_run.ensures) ∙
-    sym (ap (λ rs. within rs c.args.field) (runs_from c.args.self.now c.loop-j.j c.run-offset.result c.requires c.loop-j-test.true c.run-offset.ensures)) ∙
-    c.loop-j.invariant
+abbrev contains : ℕ → Run → Bool
+contains field r = leb r.offset field && ltb field (r.offset + r.length)
 
-pub loop-j-preserved : goal.loop-j-preserved
-loop-j-preserved c =
-    sym (within_first c.run-offset.result (drop (c.loop-j.j + 1) (row_runs c.args.self.now)) c.args.field _ c.if-in_run.ensures) ∙
-    sym (ap (λ rs. within rs c.args.field) (runs_from c.args.self.now c.loop-j.j c.run-offset.result c.requires c.loop-j-test.true c.run-offset.ensures)) ∙
-    c.loop-j.invariant
+-- A field lies in one of the runs just if one of them contains it.
+any_within : (runs : List Run) (field : ℕ) → list_any (contains field) runs ≡ within (map run_pair runs) field
+any_within [] field = refl
+any_within (r ∷ runs) field = ap (λ x. contains field r || x) (any_within runs field)
 
 pub returns : goal.returns
-returns c = sym (ap (λ rs. within rs c.args.field) (runs_past c.args.self.now c.loop-j.j c.requires c.loop-j-test.false)) ∙ c.loop-j.invariant
+returns c =
+    any_from_yields_List (contains c.args.field) _ _ _ c.any.ensures.ran (YieldsList-from_slice c.runs.result.now cc) (λ x b q k. search (rules, tests)) ∙
+    any_within c.runs.result.now c.args.field ∙
+    ap (λ runs. within (map run_pair runs) c.args.field) c.runs.ensures

@@ -1,4 +1,5 @@
 use Rattle.std.proofs.Common.{◌≤◌, length, sym, ap, ◌∙◌, subst, arith}
+use Rattle.kinds.proofs.Sealed.{few_kinds}
 use Rattle.kinds.specs.Books.{kinds_of}
 use Rattle.graph.specs.Meaning.{Opened}
 use Rattle.straight.specs.Words.{State}
@@ -10,7 +11,7 @@ use Rattle.straight.proofs.heap.Straight.open.Goals as goal
 
 pub invariant_of-result : goal.invariant_of-result
 invariant_of-result c =
-    let few : length (kinds_of c.args.book) ≤ 16 = subst (λ n. n ≤ 16) (sym c.args.book.counted) c.args.book.few in
+    let few : length (kinds_of c.args.book) ≤ 16 = few_kinds c.args.book in
     let small : c.args.first ≤ 4294967296 = omega arith in
     record { whole = ∣ subst Whole (sym c.open.ensures) (opened_whole c.args.memory.now c.args.slots (kinds_of c.args.book) c.args.first few small) ∣₁ }
 
