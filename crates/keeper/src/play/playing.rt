@@ -23,7 +23,7 @@ fn played<H: Collected, P: Pacing>(
     requires empty { room.items ≡ [] }
     requires replies { length orders.now ≤ vec_capacity room }
     requires bills { vec_len strays + length orders.now ≤ vec_capacity strays }
-    ensures { Playing H.Heap.meaning P.Pacing.rate P.Pacing.asks (fresh (H.Heap.meaning heap) (P.Pacing.rate pacing) (P.Pacing.asks pacing)) strays orders.now result }
+    ensures { Playing H.Heap P.Pacing heap pacing strays orders.now result }
 {
     let mut keeper = Keeper::new(heap, pacing);
     let mut bills = strays;
@@ -49,7 +49,7 @@ pub fn play<H: Collected, P: Pacing>(
     orders: &[Order],
     strays: Vec<Bill>,
 ) -> Result<Run<H, P>, Unplayed<H, P>>
-    ensures { Outcome H.Heap.meaning P.Pacing.rate P.Pacing.asks heap pacing (fresh (H.Heap.meaning heap) (P.Pacing.rate pacing) (P.Pacing.asks pacing)) strays orders.now result }
+    ensures { Outcome H.Heap P.Pacing heap pacing strays orders.now result }
 {
     let mut bills = strays;
     let count = orders.len();

@@ -52,7 +52,7 @@ fn make<H: Collected, P: Pacing>(
     kind: u32,
 ) -> Reply
     requires { vec_len bills.old < vec_capacity bills.old }
-    ensures did { Taken (asked (Order.Make slot kind) (numbers bills.old)) (said_by result (state H.Heap.meaning P.Pacing.rate P.Pacing.asks keeper.new)) (state H.Heap.meaning P.Pacing.rate P.Pacing.asks keeper.old) (state H.Heap.meaning P.Pacing.rate P.Pacing.asks keeper.new) }
+    ensures did { Taken (asked (Order.Make slot kind) (numbers bills.old)) (said_by result (state H.Heap P.Pacing keeper.new)) (state H.Heap P.Pacing keeper.old) (state H.Heap P.Pacing keeper.new) }
     ensures held { numbers bills.new ≡ held_after (numbers bills.old) (Order.Make slot kind) result }
     ensures cap { vec_capacity bills.new ≡ vec_capacity bills.old }
     ensures len { vec_len bills.new ≤ vec_len bills.old + 1 }
@@ -72,7 +72,7 @@ fn settle<H: Collected, P: Pacing>(
     bills: &mut Vec<Bill>,
     place: usize,
 ) -> Reply
-    ensures did { Taken (asked (Order.Settle place) (numbers bills.old)) (said_by result (state H.Heap.meaning P.Pacing.rate P.Pacing.asks keeper.new)) (state H.Heap.meaning P.Pacing.rate P.Pacing.asks keeper.old) (state H.Heap.meaning P.Pacing.rate P.Pacing.asks keeper.new) }
+    ensures did { Taken (asked (Order.Settle place) (numbers bills.old)) (said_by result (state H.Heap P.Pacing keeper.new)) (state H.Heap P.Pacing keeper.old) (state H.Heap P.Pacing keeper.new) }
     ensures held { numbers bills.new ≡ held_after (numbers bills.old) (Order.Settle place) result }
     ensures cap { vec_capacity bills.new ≡ vec_capacity bills.old }
     ensures len { vec_len bills.new ≤ vec_len bills.old + 1 }
@@ -97,7 +97,7 @@ pub(super) fn obey<H: Collected, P: Pacing>(
     order: Order,
 ) -> Reply
     requires { vec_len bills.old < vec_capacity bills.old }
-    ensures did { Taken (asked order (numbers bills.old)) (said_by result (state H.Heap.meaning P.Pacing.rate P.Pacing.asks keeper.new)) (state H.Heap.meaning P.Pacing.rate P.Pacing.asks keeper.old) (state H.Heap.meaning P.Pacing.rate P.Pacing.asks keeper.new) }
+    ensures did { Taken (asked order (numbers bills.old)) (said_by result (state H.Heap P.Pacing keeper.new)) (state H.Heap P.Pacing keeper.old) (state H.Heap P.Pacing keeper.new) }
     ensures held { numbers bills.new ≡ held_after (numbers bills.old) order result }
     ensures cap { vec_capacity bills.new ≡ vec_capacity bills.old }
     ensures len { vec_len bills.new ≤ vec_len bills.old + 1 }

@@ -12,9 +12,9 @@ accepted_acts None s t a k n P Q h q = q
 
 pub returns-in-Ok-settle : goal.returns-in-Ok-settle
 returns-in-Ok-settle g c =
-    let s = state g.H.Heap.meaning g.P.Pacing.rate g.P.Pacing.asks c.args.keeper.now in
-    let u = state g.H.Heap.meaning g.P.Pacing.rate g.P.Pacing.asks c.make.new.self in
-    let t = state g.H.Heap.meaning g.P.Pacing.rate g.P.Pacing.asks c.settle.new.self in
+    let s = state g.H.Heap g.P.Pacing c.args.keeper.now in
+    let u = state g.H.Heap g.P.Pacing c.make.new.self in
+    let t = state g.H.Heap g.P.Pacing c.settle.new.self in
     let made = c.in-Ok.ensures in
     record {
       between = c.make.new.self;

@@ -6,8 +6,8 @@ use Rattle.keeper.proofs.keeper.Keeper.settle.Goals as goal
 
 pub returns : goal.returns
 returns g c =
-    let s = state g.H.Heap.meaning g.P.Pacing.rate g.P.Pacing.asks c.args.self.now in
-    let t = state g.H.Heap.meaning g.P.Pacing.rate g.P.Pacing.asks c.idle-made.new.self in
+    let s = state g.H.Heap g.P.Pacing c.args.self.now in
+    let t = state g.H.Heap g.P.Pacing c.idle-made.new.self in
     let billed : c.args.self.now.bill ≡ Some c.args.bill.number = (let t = c.if-open-bill.true in let i = c.in-Some.is in cc) in
     let left : c.spare.result ≡ s.heap.spare = spare_told s.heap c.spare.result c.spare.ensures.means in
     let count : c.owed-count.result ≡ owed s = c.owed-count.ensures ∙ ap (λ n. s.asks s.steps s.words n) left in

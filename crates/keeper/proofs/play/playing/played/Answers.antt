@@ -10,16 +10,16 @@ use Rattle.keeper.proofs.play.playing.played.Goals as goal
 
 pub loop-i-init : goal.loop-i-init
 loop-i-init g c =
-    let s = state g.H.Heap.meaning g.P.Pacing.rate g.P.Pacing.asks c.new-keeper.result in
+    let s = state g.H.Heap g.P.Pacing c.new-keeper.result in
     let e : vec_items c.args.room ≡ [] = c.requires.empty in
     let n : vec_len c.args.room ≡ 0 = c.args.room.ok.0 ∙ ap length e in
     (([], subst (λ (ws : List Reply). Played s (numbers c.args.strays) [] ws [] s (numbers c.args.strays)) (sym e) none), n, c.requires.replies, omega (arith, c.requires.bills))
 
 pub loop-i-preserved : goal.loop-i-preserved
 loop-i-preserved g c =
-    let s = state g.H.Heap.meaning g.P.Pacing.rate g.P.Pacing.asks c.new-keeper.result in
-    let u = state g.H.Heap.meaning g.P.Pacing.rate g.P.Pacing.asks c.loop-i.keeper in
-    let t = state g.H.Heap.meaning g.P.Pacing.rate g.P.Pacing.asks c.obey-reply.new.keeper in
+    let s = state g.H.Heap g.P.Pacing c.new-keeper.result in
+    let u = state g.H.Heap g.P.Pacing c.loop-i.keeper in
+    let t = state g.H.Heap g.P.Pacing c.obey-reply.new.keeper in
     let i = c.loop-i.invariant in
     let p = c.push_reserved.ensures in
     let o = c.obey-reply.ensures in (
@@ -32,8 +32,8 @@ loop-i-preserved g c =
 pub returns : goal.returns
 returns g c =
     let k = c.new-keeper.result in
-    let s = state g.H.Heap.meaning g.P.Pacing.rate g.P.Pacing.asks k in
-    let t = state g.H.Heap.meaning g.P.Pacing.rate g.P.Pacing.asks c.loop-i.keeper in
+    let s = state g.H.Heap g.P.Pacing k in
+    let t = state g.H.Heap g.P.Pacing c.loop-i.keeper in
     let grounds : Grounds s = record { bounded = g.H.Heap.bounded k.heap; some = g.met.P.Pacing.some k.pacing; few = g.met.P.Pacing.few k.pacing; enough = g.met.P.Pacing.enough k.pacing } in
     subst (λ (v : State). Ran v (numbers c.args.strays) c.args.orders.now (vec_items c.loop-i.replies) t (numbers c.loop-i.bills)) c.new-keeper.ensures.holds
     (all_orders s t (numbers c.args.strays) (numbers c.loop-i.bills) c.args.orders.now (vec_items c.loop-i.replies) c.loop-i.i grounds

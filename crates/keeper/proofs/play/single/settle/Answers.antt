@@ -20,7 +20,7 @@ returns-then-place-len g c =
     let xs = vec_items c.args.bills.now in
     let past : length xs ≤ c.args.place = subst (λ n. n ≤ c.args.place) (c.len.ensures ∙ c.args.bills.now.ok.0) c.if-place-len.true in
     record {
-      did = nothing _ (get_or (numbers c.args.bills.now) c.args.place 0) (state g.H.Heap.meaning g.P.Pacing.rate g.P.Pacing.asks c.args.keeper.now) (past_numbers xs c.args.place past);
+      did = nothing _ (get_or (numbers c.args.bills.now) c.args.place 0) (state g.H.Heap g.P.Pacing c.args.keeper.now) (past_numbers xs c.args.place past);
       held = refl;
       cap = refl;
       len = omega arith;
@@ -29,8 +29,8 @@ returns-then-place-len g c =
 pub returns-in-Ok : goal.returns-in-Ok
 returns-in-Ok g c =
     let xs = vec_items c.args.bills.now in
-    let s = state g.H.Heap.meaning g.P.Pacing.rate g.P.Pacing.asks c.args.keeper.now in
-    let t = state g.H.Heap.meaning g.P.Pacing.rate g.P.Pacing.asks c.settle.new.self in
+    let s = state g.H.Heap g.P.Pacing c.args.keeper.now in
+    let t = state g.H.Heap g.P.Pacing c.settle.new.self in
     let b = c.remove-bill.result in
     let l : c.args.place < length xs = subst (λ n. c.args.place < n) (c.len.ensures ∙ c.args.bills.now.ok.0) c.if-place-len.false in
     record {
@@ -43,8 +43,8 @@ returns-in-Ok g c =
 pub returns-in-Err : goal.returns-in-Err
 returns-in-Err g c =
     let xs = vec_items c.args.bills.now in
-    let s = state g.H.Heap.meaning g.P.Pacing.rate g.P.Pacing.asks c.args.keeper.now in
-    let t = state g.H.Heap.meaning g.P.Pacing.rate g.P.Pacing.asks c.settle.new.self in
+    let s = state g.H.Heap g.P.Pacing c.args.keeper.now in
+    let t = state g.H.Heap g.P.Pacing c.settle.new.self in
     let b = c.remove-bill.result in
     let l : c.args.place < length xs = subst (λ n. c.args.place < n) (c.len.ensures ∙ c.args.bills.now.ok.0) c.if-place-len.false in
     let n : get_or (numbers c.args.bills.now) c.args.place 0 ≡ b.number = number_at xs c.args.place b l c.remove-bill.ensures.value in
