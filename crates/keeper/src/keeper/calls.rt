@@ -19,14 +19,13 @@ use kinds::refusal::Refusal;
 use pacing::pace::Pacing;
 
 /// The counts stop here.
-const CAP: u32 = 1_000_000;
+const CAP: u64 = 1_000_000;
 
 /// A count with more, which stops at 1,000,000.
 fn counted(old: u32, more: u64) -> u32
     ensures { result ≡ min (old + more) cap }
 {
-    let sum = (old as u64).saturating_add(more);
-    if sum < CAP as u64 { sum as u32 } else { CAP }
+    u64::from(old).saturating_add(more).min(CAP) as u32
 }
 
 impl<H: Collected, P: Pacing> Keeper<H, P> {
@@ -62,15 +61,11 @@ impl<H: Collected, P: Pacing> Keeper<H, P> {
             return Err(Refusal::BillOpen);
         }
         let before = self.heap.spare();
-        match self.heap.make(slot, kind) {
-            Ok(number) => {
-                let after = self.heap.spare();
-                self.words = counted(self.words, (before - after) as u64);
-                self.bill = Some(number);
-                Ok((number, Bill { number }))
-            }
-            Err(why) => Err(why),
-        }
+        let number = self.heap.make(slot, kind)?;
+        let after = self.heap.spare();
+        self.words = counted(self.words, (before - after) as u64);
+        self.bill = Some(number);
+        Ok((number, Bill { number }))
     }
 
     /// Answers a word field of the slot's record.
@@ -155,13 +150,13 @@ impl<H: Collected, P: Pacing> Keeper<H, P> {
 
     /// Spends the bill: asks the pacing with the counts and the spare as they are now, and idles just as long as it says.
     /// Answers the steps made. A bill that is not the open one is refused with 9 and handed back.
+    #[tactic(auto, using(crate::proofs::Steps::tells))]
     pub fn settle(&mut self, bill: Bill) -> Result<u64, NotSettled>
         ensures event { Answered (state H.Heap P.Pacing self.old) bill.number result (state H.Heap P.Pacing self.new) }
         ensures acts { by_settled result (λ made. H.Collected.idles self.old.heap (Owed (state H.Heap P.Pacing self.old)) made (over made (state H.Heap P.Pacing self.new)) self.new.heap) (self.new.heap ≡ self.old.heap) }
     {
-        match self.bill {
-            Some(open) if open == bill.number => {}
-            _ => return Err(NotSettled::WrongBill(bill)),
+        if !self.bill.is_some_and(|open| open == bill.number) {
+            return Err(NotSettled::WrongBill(bill));
         }
         let Bill { number: _ } = bill;
         self.bill = None;
