@@ -1,7 +1,7 @@
 -- Every call that made a step lies in a cycle.
 use Rattle.std.proofs.Common.{◌≡◌, ◌<◌, Bool, true, false, ◌⊎◌, List, [], ◌∷◌, ◌++◌, sym, refl, ap, ◌∙◌, inl, inr, append_assoc}
 use Rattle.keeper.specs.History.{Moment, Closed, Still, Unended, Ends, Covered, steps_in, ended_in}
-use Rattle.keeper.proofs.Steps.{zero_or}
+use Rattle.std.proofs.Math.Nat.{eq-zero-or-pos}
 
 -- A list taken apart at its last cycle.
 record Cut (l : List Moment) : Type 0 where
@@ -36,7 +36,7 @@ closed_more x (y ∷ es) e c = c
 front : (x : Moment) (l : List Moment) → ended_in x.said ≡ false → (earlier waiting : List Moment) (first : Moment) (during : List Moment) → l ≡ earlier ++ (waiting ++ (first ∷ during)) → Closed earlier → Still waiting → Unended waiting → 0 < steps_in first.said → Unended (first ∷ during) ⊎ Ends first during → Cut (x ∷ l)
 front x l n (y ∷ ys) w f d p c s q t h = record { earlier = x ∷ (y ∷ ys); waiting = w; first = f; during = d; parts = ap (λ (m : List Moment). x ∷ m) p; closed = c; still = s; quiet = q; starts = t; shape = h }
 front x l n [] w f d p c s q t h =
-    elim (zero_or (steps_in x.said)) [
+    elim (eq-zero-or-pos (steps_in x.said)) [
       | inl z ↦ record { earlier = []; waiting = x ∷ w; first = f; during = d; parts = ap (λ (m : List Moment). x ∷ m) p; closed = tt; still = (z, s); quiet = (n, q); starts = t; shape = h }
       | inr z ↦ record {
         earlier = [];
