@@ -66,13 +66,13 @@ fewer : (z : Terms) (s : State) (i : Inv z s) → s.words ≤ z.Q + z.M
 fewer z s i = omega (arith, few z s i, slack_most s.bill z.M)
 
 no_rise : (s t : State) (w : ℕ) → Effect s w 0 false t → t.heap.due ≤ s.heap.due
-no_rise s t w e = elim (eq-zero-or-pos s.heap.due) [ inl z ↦ omega (arith, e.resting z refl) | inr p ↦ omega (arith, e.going p) ]
+no_rise s t w e = grind arith
 
 was_open : (s t : State) (w : ℕ) → Effect s w 0 false t → 0 < t.heap.due → 0 < s.heap.due
 was_open s t w e h = omega (arith, no_rise s t w e)
 
 rest_back : (s t : State) (w : ℕ) → Effect s w 0 false t → t.heap.due ≡ 0 → s.heap.due ≡ 0
-rest_back s t w e h = elim (eq-zero-or-pos s.heap.due) [ inl z ↦ z | inr p ↦ omega (arith, e.on refl p) ]
+rest_back s t w e h = grind arith
 
 -- A call that made no word and no step.
 free_step : (z : Terms) (s t : State) → Effect s 0 0 false t → t.rate ≡ s.rate → t.asks ≡ s.asks → t.steps ≡ s.steps → t.words ≡ s.words → t.bill ≡ s.bill → Inv z s → Inv z t
@@ -119,32 +119,16 @@ made_step z s t w n e f r a p c b b' i =
 
 -- Steps.
 ran : (z : Terms) (s t : State) (k : ℕ) → Effect s 0 k false t → live_words s.heap ≤ z.L → Inv z s → s.steps + k + t.heap.due ≤ z.F + z.L
-ran z s t k e l i =
-    elim (eq-zero-or-pos s.heap.due) [
-      | inl a ↦ elim (eq-zero-or-pos k) [ inl b ↦ omega (arith, i.resting a, e.resting a b) | inr b ↦ omega (arith, i.resting a, e.start a b) ]
-      | inr a ↦ omega (arith, e.going a)
-    ]
+ran z s t k e l i = grind arith
 
 kept_open : (z : Terms) (s t : State) (k : ℕ) → Effect s 0 k false t → live_words s.heap ≤ z.L → Inv z s → 0 < t.heap.due → t.heap.kept ≤ z.L + s.words
-kept_open z s t k e l i h =
-    elim (eq-zero-or-pos s.heap.due) [
-      | inl a ↦ elim (eq-zero-or-pos k) [ inl b ↦ omega (arith, e.resting a b) | inr b ↦ omega (arith, e.start a b) ]
-      | inr a ↦ omega (arith, e.going a, i.kept a)
-    ]
+kept_open z s t k e l i h = grind arith
 
 rest_open : (z : Terms) (s t : State) (k : ℕ) → Effect s 0 k false t → Inv z s → t.heap.due ≡ 0 → s.steps + k ≡ 0
-rest_open z s t k e i h =
-    elim (eq-zero-or-pos s.heap.due) [
-      | inl a ↦ elim (eq-zero-or-pos k) [ inl b ↦ omega (arith, i.resting a) | inr b ↦ omega (arith, e.on_made refl b) ]
-      | inr a ↦ omega (arith, e.on refl a)
-    ]
+rest_open z s t k e i h = grind arith
 
 kept_ended : (z : Terms) (s t : State) (k : ℕ) → Effect s 0 k true t → live_words s.heap ≤ z.L → Inv z s → t.heap.kept ≤ z.L + s.words
-kept_ended z s t k e l i =
-    elim (eq-zero-or-pos s.heap.due) [
-      | inl a ↦ omega (arith, e.start a (e.end refl).2)
-      | inr a ↦ omega (arith, e.going a, i.kept a)
-    ]
+kept_ended z s t k e l i = grind arith
 
 count_step : (z : Terms) (s t : State) (k : ℕ) (ended : Bool) (paying : ℕ) → Effect s 0 k ended t → live_words s.heap ≤ z.L → Counted s k ended t → (ended ≡ false → (s.words ≤ paying + slack t.bill z.M) × (z.r * paying ≤ s.steps + k)) → Inv z s → Inv z t
 count_step z s t k true paying e l c p i =

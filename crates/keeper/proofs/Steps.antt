@@ -1,6 +1,6 @@
 -- What an idle of many steps does, from what each step does.
 use Rattle.std.proofs.Common.{◌≡◌, ℕ, zero, suc, ◌+◌, ◌<◌, ◌≤◌, Bool, true, false, ◌&&◌, eqb, ltb, sym, refl, ap, ◌∙◌, arith}
-use Rattle.std.proofs.lemmas.Bool.{and_from, and_right, lt-ltb, eq-eqb, ne_eqb}
+use Rattle.std.proofs.lemmas.Bool.Decides.{nat_tests}
 use Rattle.graph.specs.Meaning.{Meaning, live_words}
 use Rattle.graph.specs.Cycle.{Idled}
 use Rattle.graph.specs.Cycle.{stop, last, more}
@@ -36,14 +36,4 @@ whole (more st p r) e = ap suc (whole r e)
 
 -- Whether a cycle ended can be read from the steps and from what is due.
 pub tells : {m : Meaning} {n made : ℕ} {ended : Bool} {o : Meaning} → Idled m n made ended o → ended ≡ (ltb 0 made && eqb o.due 0)
-tells {m} {n} {made} {ended} {o} i = by_cases made ended o (went i) (some_made i)
-  where
-    some_made : {m : Meaning} {n made : ℕ} {ended : Bool} {o : Meaning} → Idled m n made ended o → made ≡ 0 → ended ≡ false
-    some_made stop e = refl
-    some_made (last st p) e = absurd (omega arith)
-    some_made (more st p r) e = absurd (omega arith)
-
-    by_cases : {m : Meaning} (made : ℕ) (ended : Bool) (o : Meaning) → Went m made ended o → (made ≡ 0 → ended ≡ false) → ended ≡ (ltb 0 made && eqb o.due 0)
-    by_cases zero ended o w z = z refl
-    by_cases (suc made) true o w z = sym (and_from (ltb 0 (suc made)) (eqb o.due 0) (lt-ltb 0 (suc made) (omega arith)) (eq-eqb o.due 0 (w.end refl).0))
-    by_cases (suc made) false o w z = sym (and_right (ltb 0 (suc made)) (eqb o.due 0) (ne_eqb o.due 0 (λ e. let p = w.on_made refl (omega arith) in omega arith)))
+tells i = let w = went i in grind (arith, nat_tests)
