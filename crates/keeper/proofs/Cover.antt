@@ -1,7 +1,8 @@
 -- Every call that made a step lies in a cycle.
 use Rattle.std.proofs.Common.{◌≡◌, ◌<◌, Bool, true, false, ◌⊎◌, List, [], ◌∷◌, ◌++◌, sym, refl, ap, ◌∙◌, inl, inr, append_assoc}
 use Rattle.keeper.specs.History.{Moment, Closed, Still, Unended, Ends, Covered, steps_in, ended_in}
-use Rattle.keeper.proofs.Steps.{zero_or}
+use Rattle.std.proofs.Math.Nat.{eq-zero-or-pos}
+use Rattle.std.proofs.lemmas.Bool.{cases_Bool}
 
 -- A list taken apart at its last cycle.
 record Cut (l : List Moment) : Type 0 where
@@ -15,10 +16,6 @@ record Cut (l : List Moment) : Type 0 where
   quiet : Unended waiting
   starts : 0 < steps_in first.said
   shape : Unended (first ∷ during) ⊎ Ends first during
-
-told : (b : Bool) → (b ≡ false) ⊎ (b ≡ true)
-told true = inr refl
-told false = inl refl
 
 unended_join : (w : List Moment) (d : List Moment) → Unended w → Unended d → Unended (w ++ d)
 unended_join [] d p q = q
@@ -36,7 +33,7 @@ closed_more x (y ∷ es) e c = c
 front : (x : Moment) (l : List Moment) → ended_in x.said ≡ false → (earlier waiting : List Moment) (first : Moment) (during : List Moment) → l ≡ earlier ++ (waiting ++ (first ∷ during)) → Closed earlier → Still waiting → Unended waiting → 0 < steps_in first.said → Unended (first ∷ during) ⊎ Ends first during → Cut (x ∷ l)
 front x l n (y ∷ ys) w f d p c s q t h = record { earlier = x ∷ (y ∷ ys); waiting = w; first = f; during = d; parts = ap (λ (m : List Moment). x ∷ m) p; closed = c; still = s; quiet = q; starts = t; shape = h }
 front x l n [] w f d p c s q t h =
-    elim (zero_or (steps_in x.said)) [
+    elim (eq-zero-or-pos (steps_in x.said)) [
       | inl z ↦ record { earlier = []; waiting = x ∷ w; first = f; during = d; parts = ap (λ (m : List Moment). x ∷ m) p; closed = tt; still = (z, s); quiet = (n, q); starts = t; shape = h }
       | inr z ↦ record {
         earlier = [];
@@ -53,12 +50,12 @@ front x l n [] w f d p c s q t h =
     ]
 
 cut : (xs : List Moment) (e : Moment) → 0 < steps_in e.said → Cut (xs ++ (e ∷ []))
-cut [] e p = record { earlier = []; waiting = []; first = e; during = []; parts = refl; closed = tt; still = tt; quiet = tt; starts = p; shape = elim (told (ended_in e.said)) [ inl u ↦ inl (u, tt) | inr u ↦ inr u ] }
+cut [] e p = record { earlier = []; waiting = []; first = e; during = []; parts = refl; closed = tt; still = tt; quiet = tt; starts = p; shape = elim (cases_Bool (ended_in e.said)) [ inl u ↦ inr u | inr u ↦ inl (u, tt) ] }
 cut (x ∷ xs) e p =
     let k = cut xs e p in
-    elim (told (ended_in x.said)) [
-      | inl n ↦ front x (xs ++ (e ∷ [])) n k.earlier k.waiting k.first k.during k.parts k.closed k.still k.quiet k.starts k.shape
-      | inr n ↦ record { earlier = x ∷ k.earlier; waiting = k.waiting; first = k.first; during = k.during; parts = ap (λ (m : List Moment). x ∷ m) k.parts; closed = closed_more x k.earlier n k.closed; still = k.still; quiet = k.quiet; starts = k.starts; shape = k.shape }
+    elim (cases_Bool (ended_in x.said)) [
+      | inr n ↦ front x (xs ++ (e ∷ [])) n k.earlier k.waiting k.first k.during k.parts k.closed k.still k.quiet k.starts k.shape
+      | inl n ↦ record { earlier = x ∷ k.earlier; waiting = k.waiting; first = k.first; during = k.during; parts = ap (λ (m : List Moment). x ∷ m) k.parts; closed = closed_more x k.earlier n k.closed; still = k.still; quiet = k.quiet; starts = k.starts; shape = k.shape }
     ]
 
 regroup : (a w d ys : List Moment) (f : Moment) → (a ++ (w ++ (f ∷ d))) ++ ys ≡ a ++ (w ++ (f ∷ (d ++ ys)))

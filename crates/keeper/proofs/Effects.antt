@@ -6,7 +6,7 @@ use Rattle.graph.specs.Meaning.{Meaning, Reply, gave, refused, Accepted, Called,
 use Rattle.graph.proofs.Accepted.{accepted}
 use Rattle.keeper.specs.Keeping.{State, Ask, call, idle, settle, Said, told, idled, settled, unsettled, charge, Made, Calls, Event}
 use Rattle.keeper.specs.History.{steps_in, ended_in, price, if_gave}
-use Rattle.keeper.proofs.Steps.{Went, went, not_both}
+use Rattle.keeper.proofs.Steps.{Went, went}
 
 -- What a make's reply says: an accepted one has a kind of the book; one refused with 6 has too, and its charge is above the spare.
 abbrev pub Told : Meaning → ℕ → Reply → Type 0
@@ -44,13 +44,13 @@ from_went : (s t : State) (k : ℕ) (ended : Bool) → Went s.heap k ended t.hea
 from_went s t k ended w = record { book = w.book; charges = w.charges; capacity = w.capacity; fixed = w.fixed; spare = omega arith; resting = w.resting; start = w.start; going = λ h. let g = w.going h in omega arith; on_made = w.on_made; on = w.on; end = w.end }
 
 from_same : (s : State) → Effect s 0 0 false s
-from_same s = record { book = refl; charges = refl; capacity = refl; fixed = refl; spare = omega arith; resting = λ h k. h; start = λ h k. omega arith; going = λ h. omega arith; on_made = λ e h. omega arith; on = λ e h. h; end = λ e. absurd (not_both (sym e)) }
+from_same s = record { book = refl; charges = refl; capacity = refl; fixed = refl; spare = omega arith; resting = λ h k. h; start = λ h k. omega arith; going = λ h. omega arith; on_made = λ e h. omega arith; on = λ e h. h; end = λ e. cc }
 
 from_equal : (s t : State) → t.heap ≡ s.heap → Effect s 0 0 false t
-from_equal s t e = record { book = ap (λ (m : Meaning). m.book) e; charges = ap (λ (m : Meaning). m.charges) e; capacity = ap (λ (m : Meaning). m.capacity) e; fixed = ap (λ (m : Meaning). m.fixed) e; spare = let x = ap (λ (m : Meaning). m.spare) e in omega arith; resting = λ h k. let x = ap (λ (m : Meaning). m.due) e in omega arith; start = λ h k. omega arith; going = λ h. let x = ap (λ (m : Meaning). m.due) e in let y = ap (λ (m : Meaning). m.kept) e in omega arith; on_made = λ q h. omega arith; on = λ q h. let x = ap (λ (m : Meaning). m.due) e in omega arith; end = λ q. absurd (not_both (sym q)) }
+from_equal s t e = record { book = ap (λ (m : Meaning). m.book) e; charges = ap (λ (m : Meaning). m.charges) e; capacity = ap (λ (m : Meaning). m.capacity) e; fixed = ap (λ (m : Meaning). m.fixed) e; spare = let x = ap (λ (m : Meaning). m.spare) e in omega arith; resting = λ h k. let x = ap (λ (m : Meaning). m.due) e in omega arith; start = λ h k. omega arith; going = λ h. let x = ap (λ (m : Meaning). m.due) e in let y = ap (λ (m : Meaning). m.kept) e in omega arith; on_made = λ q h. omega arith; on = λ q h. let x = ap (λ (m : Meaning). m.due) e in omega arith; end = λ q. cc }
 
 from_accepted : (s t : State) (c : Call) → Accepted s.heap c t.heap → Effect s (paid s.heap.charges c) 0 false t
-from_accepted s t c a = record { book = a.book; charges = a.charges; capacity = a.capacity; fixed = a.fixed; spare = omega arith; resting = λ h k. omega arith; start = λ h k. omega arith; going = λ h. omega arith; on_made = λ q h. omega arith; on = λ q h. a.still h; end = λ q. absurd (not_both (sym q)) }
+from_accepted s t c a = record { book = a.book; charges = a.charges; capacity = a.capacity; fixed = a.fixed; spare = omega arith; resting = λ h k. omega arith; start = λ h k. omega arith; going = λ h. omega arith; on_made = λ q h. omega arith; on = λ q h. a.still h; end = λ q. cc }
 
 -- A call of the heap.
 from_called : (s t : State) (c : Call) (r : Reply) → Called s.heap c r t.heap → Effect s (if_gave (told r) (paid s.heap.charges c)) 0 false t

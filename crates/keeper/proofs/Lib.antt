@@ -4,6 +4,5 @@ pub mod Cover
 pub mod Cycles
 pub mod Room
 pub mod Shown
-pub mod Settled
 pub mod BillLists
 pub mod Plays

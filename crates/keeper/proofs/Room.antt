@@ -6,7 +6,8 @@ use Rattle.graph.specs.Calls.{Call, make, read, write, follow, link, hold, drop,
 use Rattle.graph.specs.Meaning.{Meaning, Reply, gave, refused, live_words}
 use Rattle.keeper.specs.Keeping.{State, Ask, call, idle, settle, Said, told, idled, settled, unsettled, charge, cap, Passed, Made, Making, Counted, Calls, Event}
 use Rattle.keeper.specs.History.{Moment, History, none, then, New, Grounds, Sized, Fits, Roomy, Each, quotient, steps_in, ended_in, price, if_gave}
-use Rattle.keeper.proofs.Steps.{whole, zero_or}
+use Rattle.std.proofs.Math.Nat.{eq-zero-or-pos}
+use Rattle.keeper.proofs.Steps.{whole}
 use Rattle.keeper.proofs.Effects.{Effect, effect, Told, told_by}
 
 -- What may be made and not yet settled.
@@ -65,13 +66,13 @@ fewer : (z : Terms) (s : State) (i : Inv z s) → s.words ≤ z.Q + z.M
 fewer z s i = omega (arith, few z s i, slack_most s.bill z.M)
 
 no_rise : (s t : State) (w : ℕ) → Effect s w 0 false t → t.heap.due ≤ s.heap.due
-no_rise s t w e = elim (zero_or s.heap.due) [ inl z ↦ omega (arith, e.resting z refl) | inr p ↦ omega (arith, e.going p) ]
+no_rise s t w e = grind arith
 
 was_open : (s t : State) (w : ℕ) → Effect s w 0 false t → 0 < t.heap.due → 0 < s.heap.due
 was_open s t w e h = omega (arith, no_rise s t w e)
 
 rest_back : (s t : State) (w : ℕ) → Effect s w 0 false t → t.heap.due ≡ 0 → s.heap.due ≡ 0
-rest_back s t w e h = elim (zero_or s.heap.due) [ inl z ↦ z | inr p ↦ omega (arith, e.on refl p) ]
+rest_back s t w e h = grind arith
 
 -- A call that made no word and no step.
 free_step : (z : Terms) (s t : State) → Effect s 0 0 false t → t.rate ≡ s.rate → t.asks ≡ s.asks → t.steps ≡ s.steps → t.words ≡ s.words → t.bill ≡ s.bill → Inv z s → Inv z t
@@ -118,32 +119,16 @@ made_step z s t w n e f r a p c b b' i =
 
 -- Steps.
 ran : (z : Terms) (s t : State) (k : ℕ) → Effect s 0 k false t → live_words s.heap ≤ z.L → Inv z s → s.steps + k + t.heap.due ≤ z.F + z.L
-ran z s t k e l i =
-    elim (zero_or s.heap.due) [
-      | inl a ↦ elim (zero_or k) [ inl b ↦ omega (arith, i.resting a, e.resting a b) | inr b ↦ omega (arith, i.resting a, e.start a b) ]
-      | inr a ↦ omega (arith, e.going a)
-    ]
+ran z s t k e l i = grind arith
 
 kept_open : (z : Terms) (s t : State) (k : ℕ) → Effect s 0 k false t → live_words s.heap ≤ z.L → Inv z s → 0 < t.heap.due → t.heap.kept ≤ z.L + s.words
-kept_open z s t k e l i h =
-    elim (zero_or s.heap.due) [
-      | inl a ↦ elim (zero_or k) [ inl b ↦ omega (arith, e.resting a b) | inr b ↦ omega (arith, e.start a b) ]
-      | inr a ↦ omega (arith, e.going a, i.kept a)
-    ]
+kept_open z s t k e l i h = grind arith
 
 rest_open : (z : Terms) (s t : State) (k : ℕ) → Effect s 0 k false t → Inv z s → t.heap.due ≡ 0 → s.steps + k ≡ 0
-rest_open z s t k e i h =
-    elim (zero_or s.heap.due) [
-      | inl a ↦ elim (zero_or k) [ inl b ↦ omega (arith, i.resting a) | inr b ↦ omega (arith, e.on_made refl b) ]
-      | inr a ↦ omega (arith, e.on refl a)
-    ]
+rest_open z s t k e i h = grind arith
 
 kept_ended : (z : Terms) (s t : State) (k : ℕ) → Effect s 0 k true t → live_words s.heap ≤ z.L → Inv z s → t.heap.kept ≤ z.L + s.words
-kept_ended z s t k e l i =
-    elim (zero_or s.heap.due) [
-      | inl a ↦ omega (arith, e.start a (e.end refl).2)
-      | inr a ↦ omega (arith, e.going a, i.kept a)
-    ]
+kept_ended z s t k e l i = grind arith
 
 count_step : (z : Terms) (s t : State) (k : ℕ) (ended : Bool) (paying : ℕ) → Effect s 0 k ended t → live_words s.heap ≤ z.L → Counted s k ended t → (ended ≡ false → (s.words ≤ paying + slack t.bill z.M) × (z.r * paying ≤ s.steps + k)) → Inv z s → Inv z t
 count_step z s t k true paying e l c p i =
@@ -197,9 +182,9 @@ same_step : (z : Terms) (s t : State) → t ≡ s → Inv z s → Inv z t
 same_step z s t e i = subst (λ (u : State). Inv z u) (sym e) i
 
 making_step : (z : Terms) (s t : State) (a k : ℕ) (r : Reply) → Effect s (if_gave (told r) (charge s.heap k)) 0 false t → s.bill ≡ None → Making s a k r t → Inv z s → Inv z t
-making_step z s t a k (gave done) e b h i = absurd (let y : ◌≡◌ {A = ℕ} 0 1 = (let u = h.called.0 in cc) in omega arith)
+making_step z s t a k (gave done) e b h i = let u = h.called.0 in cc
 making_step z s t a k (gave (word n)) e b h i = made_step z s t (charge s.heap k) n e (i.charged k (told_by s.heap t.heap a k (gave (word n)) h.called)) h.rate h.asks h.steps h.words b h.bill i
-making_step z s t a k (gave (known _ _)) e b h i = absurd (let y : ◌≡◌ {A = ℕ} 0 1 = (let u = h.called.0 in cc) in omega arith)
+making_step z s t a k (gave (known _ _)) e b h i = let u = h.called.0 in cc
 making_step z s t a k (refused _) e b h i = free_step z s t e h.rate h.asks h.steps h.words (h.bill ∙ sym b) i
 
 made_step_by : (z : Terms) (s t : State) (a k : ℕ) (r : Reply) (o : Option ℕ) → s.bill ≡ o → Effect s (if_gave (told r) (charge s.heap k)) 0 false t → Made o s a k r t → Inv z s → Inv z t
@@ -246,7 +231,7 @@ not_full z s k b p q i =
     omega arith
 
 fits_by : (z : Terms) (s t : State) (a k : ℕ) (r : Reply) (o : Option ℕ) → s.bill ≡ o → Made o s a k r t → Inv z s → r ≡ refused 6 → ⊥
-fits_by z s t a k r (Some _) b h i e = let y : ◌≡◌ {A = ℕ} 8 6 = (let u = h.0 in cc) in omega arith
+fits_by z s t a k r (Some _) b h i e = let u = h.0 in cc
 fits_by z s t a k r None b h i e =
     let f = subst (λ (v : Reply). Told s.heap k v) e (told_by s.heap t.heap a k r h.called) refl in
     not_full z s k b f.0 f.1 i

@@ -1,16 +1,9 @@
 -- What an idle of many steps does, from what each step does.
-use Rattle.std.proofs.Common.{◌≡◌, ℕ, zero, suc, ◌+◌, ◌<◌, ◌≤◌, Bool, true, false, ◌&&◌, eqb, ltb, ◌⊎◌, sym, refl, ap, ◌∙◌, inl, inr, arith}
-use Rattle.std.proofs.lemmas.Bool.{and_from, and_right, lt-ltb, eq-eqb, ne_eqb}
+use Rattle.std.proofs.Common.{◌≡◌, ℕ, zero, suc, ◌+◌, ◌<◌, ◌≤◌, Bool, true, false, ◌&&◌, eqb, ltb, sym, refl, ap, ◌∙◌, arith}
+use Rattle.std.proofs.lemmas.Bool.Decides.{nat_tests}
 use Rattle.graph.specs.Meaning.{Meaning, live_words}
 use Rattle.graph.specs.Cycle.{Idled}
 use Rattle.graph.specs.Cycle.{stop, last, more}
-
-pub zero_or : (n : ℕ) → (n ≡ 0) ⊎ (0 < n)
-zero_or zero = inl refl
-zero_or (suc n) = inr (omega arith)
-
-pub not_both : true ≡ false → ⊥
-not_both e = let z : ◌≡◌ {A = ℕ} 0 1 = cc in omega arith
 
 -- What any idle does.
 pub record Went (m : Meaning) (made : ℕ) (ended : Bool) (o : Meaning) : Type 0 where
@@ -28,8 +21,8 @@ pub record Went (m : Meaning) (made : ℕ) (ended : Bool) (o : Meaning) : Type 0
   pub end : ended ≡ true → (o.due ≡ 0) × (o.capacity ≤ o.spare + o.kept) × (0 < made)
 
 pub went : {m : Meaning} {n made : ℕ} {ended : Bool} {o : Meaning} → Idled m n made ended o → Went m made ended o
-went stop = record { graph = refl; book = refl; charges = refl; capacity = refl; fixed = refl; spare = omega arith; resting = λ h k. h; start = λ h k. omega arith; going = λ h. omega arith; on_made = λ e h. omega arith; on = λ e h. h; end = λ e. absurd (not_both (sym e)) }
-went (last st p) = record { graph = st.graph; book = st.book; charges = st.charges; capacity = st.capacity; fixed = st.fixed; spare = st.spare; resting = λ h k. p; start = λ h k. let s = st.start h in omega arith; going = λ h. let s = st.other h in omega arith; on_made = λ e h. absurd (not_both e); on = λ e h. absurd (not_both e); end = λ e. let s = st.end p in omega arith }
+went stop = record { graph = refl; book = refl; charges = refl; capacity = refl; fixed = refl; spare = omega arith; resting = λ h k. h; start = λ h k. omega arith; going = λ h. omega arith; on_made = λ e h. omega arith; on = λ e h. h; end = λ e. cc }
+went (last st p) = record { graph = st.graph; book = st.book; charges = st.charges; capacity = st.capacity; fixed = st.fixed; spare = st.spare; resting = λ h k. p; start = λ h k. let s = st.start h in omega arith; going = λ h. let s = st.other h in omega arith; on_made = λ e h. cc; on = λ e h. cc; end = λ e. let s = st.end p in omega arith }
 went (more st p r) =
     let w = went r in
     let g = w.going p in
@@ -38,19 +31,9 @@ went (more st p r) =
 -- An idle that ends no cycle makes all its steps.
 pub whole : {m : Meaning} {n made : ℕ} {ended : Bool} {o : Meaning} → Idled m n made ended o → ended ≡ false → made ≡ n
 whole stop e = refl
-whole (last st p) e = absurd (not_both e)
+whole (last st p) e = cc
 whole (more st p r) e = ap suc (whole r e)
 
 -- Whether a cycle ended can be read from the steps and from what is due.
 pub tells : {m : Meaning} {n made : ℕ} {ended : Bool} {o : Meaning} → Idled m n made ended o → ended ≡ (ltb 0 made && eqb o.due 0)
-tells {m} {n} {made} {ended} {o} i = by_cases made ended o (went i) (some_made i)
-  where
-    some_made : {m : Meaning} {n made : ℕ} {ended : Bool} {o : Meaning} → Idled m n made ended o → made ≡ 0 → ended ≡ false
-    some_made stop e = refl
-    some_made (last st p) e = absurd (omega arith)
-    some_made (more st p r) e = absurd (omega arith)
-
-    by_cases : {m : Meaning} (made : ℕ) (ended : Bool) (o : Meaning) → Went m made ended o → (made ≡ 0 → ended ≡ false) → ended ≡ (ltb 0 made && eqb o.due 0)
-    by_cases zero ended o w z = z refl
-    by_cases (suc made) true o w z = sym (and_from (ltb 0 (suc made)) (eqb o.due 0) (lt-ltb 0 (suc made) (omega arith)) (eq-eqb o.due 0 (w.end refl).0))
-    by_cases (suc made) false o w z = sym (and_right (ltb 0 (suc made)) (eqb o.due 0) (ne_eqb o.due 0 (λ e. let p = w.on_made refl (omega arith) in omega arith)))
+tells i = let w = went i in grind (arith, nat_tests)

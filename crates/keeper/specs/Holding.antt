@@ -2,20 +2,23 @@
 use Rattle.std.specs.Prelude.{◌≡◌, ℕ, Bool, ◌&&◌, Some, None, Ok, Err, Option, Result, ◌==◌, nat_lt}
 use Rattle.kinds.specs.Refusals.{code}
 use Rattle.kinds.specs.declared.refusal.Refusal.{Refusal}
-use Rattle.graph.specs.Calls.{Call, make, word}
-use Rattle.graph.specs.Meaning.{Meaning, Reply, gave, refused}
+use Rattle.graph.specs.Calls.{make, word}
+use Rattle.graph.specs.Meaning.{Reply, gave, refused}
+use Rattle.graph.specs.declared.heap.Heap
+use Rattle.pacing.specs.declared.pace.Pacing
 use Rattle.keeper.specs.declared.keeper.Keeper.{Keeper}
 use Rattle.keeper.specs.declared.keeper.Bill.{Bill}
 use Rattle.keeper.specs.declared.keeper.NotSettled.{NotSettled}
 use Rattle.keeper.specs.declared.keeper.NotSettled.TheVariants.{WrongBill}
 use Rattle.keeper.specs.Keeping.{State, call, settle, Said, told, settled, unsettled, owed, Event}
 
-abbrev pub state : {H P : Type 0} → (H → Meaning) → (P → ℕ) → (P → ℕ → ℕ → ℕ → ℕ) → Keeper H P → State
-state meaning rate asks k = record { heap = meaning k.heap; rate = rate k.pacing; asks = asks k.pacing; steps = k.steps; words = k.words; bill = k.bill }
+-- The state of a keeper, from what the bounds of its heap and its pacing say of them.
+abbrev pub state : {H P : Type 0} → Heap.Ghosts H → Pacing.Ghosts P → Keeper H P → State
+state h p k = record { heap = h.meaning k.heap; rate = p.rate k.pacing; asks = p.asks k.pacing; steps = k.steps; words = k.words; bill = k.bill }
 
 -- The state at the setting up.
-abbrev pub fresh : Meaning → ℕ → (ℕ → ℕ → ℕ → ℕ) → State
-fresh m r asks = record { heap = m; rate = r; asks = asks; steps = 0; words = 0; bill = None }
+abbrev pub fresh : {H P : Type 0} → Heap.Ghosts H → Pacing.Ghosts P → H → P → State
+fresh h p heap pacing = record { heap = h.meaning heap; rate = p.rate pacing; asks = p.asks pacing; steps = 0; words = 0; bill = None }
 
 -- What a make's result says: the record's number, with which the bill is marked, or the refusal's number.
 abbrev pub as_billed : Result (ℕ × Bill) Refusal → Reply
@@ -53,14 +56,14 @@ by_settled (Ok made) P Q = P made
 by_settled (Err _) P Q = Q
 
 -- A make that is settled at once, with the keeper between: what both calls say, and what they do in the heap's own terms.
-module _ {H P : Type 0} (meaning : H → Meaning) (rate : P → ℕ) (asks : P → ℕ → ℕ → ℕ → ℕ) (acts : H → Call → Reply → H → Type 0) (idles : H → ℕ → ℕ → Bool → H → Type 0) where
+module _ {H P : Type 0} (h : Heap.Ghosts H) (idles : H → ℕ → ℕ → Bool → H → Type 0) (p : Pacing.Ghosts P) where
   pub record Both (k : Keeper H P) (a kind number steps : ℕ) (m : Keeper H P) : Type 0 where
     pub between : Keeper H P
-    pub made : Event (state meaning rate asks k) (call (make a kind)) (told (gave (word number))) (state meaning rate asks between)
-    pub settled : Event (state meaning rate asks between) (settle number) (Said.settled steps (over steps (state meaning rate asks m))) (state meaning rate asks m)
-    pub made_acts : acts k.heap (make a kind) (gave (word number)) between.heap
-    pub settled_acts : idles between.heap (owed (state meaning rate asks between)) steps (over steps (state meaning rate asks m)) m.heap
+    pub made : Event (state h p k) (call (make a kind)) (told (gave (word number))) (state h p between)
+    pub settled : Event (state h p between) (settle number) (Said.settled steps (over steps (state h p m))) (state h p m)
+    pub made_acts : h.acts k.heap (make a kind) (gave (word number)) between.heap
+    pub settled_acts : idles between.heap (owed (state h p between)) steps (over steps (state h p m)) m.heap
 
   abbrev pub Together : Keeper H P → ℕ → ℕ → Result (ℕ × ℕ) Refusal → Keeper H P → Type 0
   Together k a kind (Ok r) m = Both k a kind r.0 r.1 m
-  Together k a kind (Err e) m = Event (state meaning rate asks k) (call (make a kind)) (told (refused (code e))) (state meaning rate asks m)
+  Together k a kind (Err e) m = Event (state h p k) (call (make a kind)) (told (refused (code e))) (state h p m)

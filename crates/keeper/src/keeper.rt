@@ -4,11 +4,13 @@ pub mod calls;
 pub mod refused;
 
 /// The bill of a made record: made only by a keeper's make, spent only by its settle. It cannot be copied or let go.
+#[derive(Debug)]
 pub struct Bill {
     number: u32,
 }
 
 /// Why a settle was refused.
+#[derive(Debug)]
 pub enum NotSettled {
     /// 9: the bill's number is not the open one, or none is open. The bill is handed back.
     WrongBill(Bill),

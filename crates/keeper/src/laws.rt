@@ -3,9 +3,8 @@
 ghost use Rattle.keeper.specs.History.{Law, Example};
 
 /// The laws hold of every history of a new keeper, over every heap and every pacing: the promise is the theorem, there is nothing to run.
-pub fn laws_hold() -> u8
+#[tactic(auto, using(crate::proofs::Shown::law))]
+pub fn laws_hold()
     ensures law { Law }
     ensures example { Example }
-{
-    0
-}
+{}

@@ -3,7 +3,7 @@
 use kinds::refusal::Refusal;
 
 /// A call, with its arguments in their order. A settle names one of the bills held by its place among them.
-#[derive(Clone, Copy)]
+#[derive(Clone, Copy, PartialEq, Eq, Debug)]
 pub enum Order {
     Make(u32, u32),
     Read(u32, u32),
@@ -19,7 +19,7 @@ pub enum Order {
 }
 
 /// What an order came to.
-#[derive(Clone, Copy)]
+#[derive(Clone, Copy, PartialEq, Eq, Debug)]
 pub enum Reply {
     /// The call was made.
     Done,

@@ -3,8 +3,8 @@
 use crate::keeper::{Bill, Keeper};
 use crate::orders::Reply;
 
+mod player;
 pub mod playing;
-mod single;
 
 /// A list was played: the keeper, the replies one for one, and the bills that are unspent.
 pub struct Run<H, P> {

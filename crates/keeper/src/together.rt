@@ -14,13 +14,9 @@ pub fn make_and_settle<H: Collected, P: Pacing>(
     slot: u32,
     kind: u32,
 ) -> Result<(u32, u64), Refusal>
-    ensures { Together H.Heap.meaning P.Pacing.rate P.Pacing.asks H.Heap.acts H.Collected.idles keeper.old slot kind result keeper.new }
+    ensures { Together H.Heap H.Collected.idles P.Pacing keeper.old slot kind result keeper.new }
 {
-    match keeper.make(slot, kind) {
-        Ok((number, bill)) => match keeper.settle(bill) {
-            Ok(steps) => Ok((number, steps)),
-            Err(_) => unreachable(),
-        },
-        Err(why) => Err(why),
-    }
+    let (number, bill) = keeper.make(slot, kind)?;
+    let steps = keeper.settle(bill).unwrap();
+    Ok((number, steps))
 }

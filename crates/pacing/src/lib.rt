@@ -5,3 +5,4 @@
 pub mod by_mark;
 pub mod by_word;
 pub mod pace;
+pub mod rate;

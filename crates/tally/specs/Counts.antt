@@ -3,13 +3,7 @@ use Rattle.std.specs.Prelude.{ℕ, ◌+◌, min, max}
 use Rattle.graph.specs.Calls.{Call, make, read, write, follow, link, hold, drop, look, spare}
 use Rattle.graph.specs.Meaning.{Meaning, Reply, gave, refused}
 use Rattle.graph.specs.Cycle.{in_use}
-
--- Accepted makes, refused calls, steps, and the highest words in use, from the setting up on.
-pub record Counts : Type 0 where
-  pub makes : ℕ
-  pub refusals : ℕ
-  pub steps : ℕ
-  pub highest : ℕ
+use Rattle.tally.specs.declared.counts.Counts.{Counts}
 
 -- Each count stops here.
 abbrev pub most : ℕ

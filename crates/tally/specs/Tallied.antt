@@ -1,6 +1,6 @@
 -- The counts that a tally holds.
-use Rattle.tally.specs.Counts.{Counts}
+use Rattle.tally.specs.declared.counts.Counts.{Counts}
 use Rattle.tally.specs.declared.tallied.Tally.{Tally}
 
 abbrev pub counts : {H : Type 0} → Tally H → Counts
-counts t = record { makes = t.makes; refusals = t.refusals; steps = t.steps; highest = t.highest }
+counts t = t.counts

@@ -2,4 +2,5 @@
 
 #![tactic(auto)]
 
+mod counts;
 pub mod tallied;

@@ -3,12 +3,11 @@
 pub mod calls;
 pub mod questions;
 
+use crate::counts::Counts;
+
 /// Holds the heap below, and counts accepted makes, refused calls, steps and the highest words in use.
 #[derive(Drop)]
 pub struct Tally<H> {
     heap: H,
-    makes: u32,
-    refusals: u32,
-    steps: u32,
-    highest: u32,
+    counts: Counts,
 }

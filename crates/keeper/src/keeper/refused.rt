@@ -4,6 +4,7 @@ ghost use Rattle.std.specs.Prelude.{◌≡◌};
 ghost use Rattle.keeper.specs.Holding.{refusal_number, bill_of};
 
 use super::{Bill, NotSettled};
+use kinds::refusal::Refusal;
 
 impl NotSettled {
     /// The number that the settle returns: 9.
@@ -11,7 +12,7 @@ impl NotSettled {
         ensures { result ≡ refusal_number self.now }
     {
         match self {
-            NotSettled::WrongBill(_) => 9,
+            NotSettled::WrongBill(_) => Refusal::WrongBill.number(),
         }
     }
 
@@ -19,8 +20,7 @@ impl NotSettled {
     pub fn bill(self) -> Bill
         ensures { result ≡ bill_of self }
     {
-        match self {
-            NotSettled::WrongBill(bill) => bill,
-        }
+        let NotSettled::WrongBill(bill) = self;
+        bill
     }
 }

@@ -1,10 +1,9 @@
 //! Playing a list of calls on a new keeper.
 
 ghost use Rattle.std.specs.Prelude.{◌≡◌, ◌+◌, ◌≤◌, [], length, vec_len, vec_capacity};
-ghost use Rattle.keeper.specs.Holding.{state, fresh};
 ghost use Rattle.keeper.specs.Bills.{Playing, Outcome};
 
-use super::single::obey;
+use super::player::Player;
 use super::{Run, Unplayed};
 use crate::keeper::{Bill, Keeper};
 use crate::orders::{Order, Reply};
@@ -23,15 +22,17 @@ fn played<H: Collected, P: Pacing>(
     requires empty { room.items ≡ [] }
     requires replies { length orders.now ≤ vec_capacity room }
     requires bills { vec_len strays + length orders.now ≤ vec_capacity strays }
-    ensures { Playing H.Heap.meaning P.Pacing.rate P.Pacing.asks (fresh (H.Heap.meaning heap) (P.Pacing.rate pacing) (P.Pacing.asks pacing)) strays orders.now result }
+    ensures { Playing H.Heap P.Pacing heap pacing strays orders.now result }
 {
-    let mut keeper = Keeper::new(heap, pacing);
-    let mut bills = strays;
+    let mut player = Player {
+        keeper: Keeper::new(heap, pacing),
+        bills: strays,
+    };
     let mut replies = room;
-    for i in 0..orders.len() {
-        let reply = obey(&mut keeper, &mut bills, orders[i]);
-        replies.push_reserved(reply);
+    for order in orders {
+        replies.push_reserved(player.obey(*order));
     }
+    let Player { keeper, bills } = player;
     Run {
         keeper,
         replies,
@@ -49,18 +50,14 @@ pub fn play<H: Collected, P: Pacing>(
     orders: &[Order],
     strays: Vec<Bill>,
 ) -> Result<Run<H, P>, Unplayed<H, P>>
-    ensures { Outcome H.Heap.meaning P.Pacing.rate P.Pacing.asks heap pacing (fresh (H.Heap.meaning heap) (P.Pacing.rate pacing) (P.Pacing.asks pacing)) strays orders.now result }
+    ensures { Outcome H.Heap P.Pacing heap pacing strays orders.now result }
 {
     let mut bills = strays;
     let count = orders.len();
-    if bills.reserve(count).is_err() {
-        return Err(Unplayed {
-            heap,
-            pacing,
-            bills,
-        });
-    }
-    match Vec::with_capacity(alloc, count) {
+    let room = bills
+        .reserve(count)
+        .and_then(|()| Vec::with_capacity(alloc, count));
+    match room {
         Ok(replies) => Ok(played(heap, pacing, orders, bills, replies)),
         Err(_) => Err(Unplayed {
             heap,

@@ -6,6 +6,7 @@ ghost use Rattle.tally.specs.Counts.{started};
 ghost use Rattle.tally.specs.Tallied.{counts};
 
 use super::Tally;
+use crate::counts::Counts;
 use graph::heap::Heap;
 
 impl<H: Heap> Tally<H> {
@@ -15,13 +16,9 @@ impl<H: Heap> Tally<H> {
         ensures opened { (first : ℕ) → Opened first (H.Heap.meaning heap) → Opened first (H.Heap.meaning result.heap) }
         ensures counts { counts result ≡ started (H.Heap.meaning heap) }
     {
-        let highest = heap.capacity() - heap.spare();
         Tally {
+            counts: Counts::start(&heap),
             heap,
-            makes: 0,
-            refusals: 0,
-            steps: 0,
-            highest,
         }
     }
 
@@ -29,28 +26,28 @@ impl<H: Heap> Tally<H> {
     pub fn makes(&self) -> u32
         ensures { result ≡ (counts self.now).makes }
     {
-        self.makes
+        self.counts.makes
     }
 
     /// The refused calls.
     pub fn refusals(&self) -> u32
         ensures { result ≡ (counts self.now).refusals }
     {
-        self.refusals
+        self.counts.refusals
     }
 
     /// The steps.
     pub fn steps(&self) -> u32
         ensures { result ≡ (counts self.now).steps }
     {
-        self.steps
+        self.counts.steps
     }
 
     /// The highest words in use.
     pub fn highest(&self) -> u32
         ensures { result ≡ (counts self.now).highest }
     {
-        self.highest
+        self.counts.highest
     }
 
     /// The heap below, for reading.
