@@ -1,5 +1,6 @@
 -- The kinds of a sealed book keep the rules.
-use Rattle.std.proofs.Common.{◌≡◌, ℕ, zero, suc, ◌<◌, ◌≤◌, true, List, [], ◌∷◌, map, length, get_or, arith}
+use Rattle.std.proofs.Common.{◌≡◌, ℕ, zero, suc, ◌<◌, ◌≤◌, true, List, [], ◌∷◌, map, length, get_or, length-take, arith}
+use Rattle.std.proofs.lemmas.List.{length-map}
 use Rattle.std.specs.List.{All}
 use Rattle.kinds.specs.declared.row.Row.{Row}
 use Rattle.kinds.specs.declared.book.SealedBook.{SealedBook}
@@ -10,7 +11,7 @@ use Rattle.kinds.specs.Laws.{Lawful}
 use Rattle.kinds.proofs.Ruling.{keeps}
 
 pub few_kinds : (b : SealedBook) → length (kinds_of b) ≤ 16
-few_kinds b = omega (arith, b.rows.counted, b.rows.few)
+few_kinds b = simp (length-map, length-take) (omega (arith, b.rows.list.few))
 
 lawful_at : (rs : List Row) (k : ℕ) → All (λ r. row_lawful r ≡ true) rs → k < length (map row_shape rs) → Lawful (get_or (map row_shape rs) k no_shape)
 lawful_at [] k h l = absurd (omega arith)

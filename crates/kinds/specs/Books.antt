@@ -1,13 +1,14 @@
 -- The kinds of a book in their order, and what calls on a book answer.
-use Rattle.std.specs.Prelude.{ℕ, cond, List, [], ◌∷◌, ◌++◌, length, Ok, Err, Result, nat_lt, slice_index_or}
+use Rattle.std.specs.Prelude.{ℕ, cond, List, [], ◌∷◌, ◌++◌, map, length, Ok, Err, Result, nat_lt, slice_index_or}
 use Rattle.kinds.specs.declared.book.Book.{Book}
 use Rattle.kinds.specs.declared.book.SealedBook.{SealedBook}
 use Rattle.kinds.specs.declared.book.rows.Rows.{Rows}
 use Rattle.kinds.specs.Shapes.{Shape, no_shape}
-use Rattle.kinds.specs.Rows.{shapes}
+use Rattle.kinds.specs.Items.{items}
+use Rattle.kinds.specs.Rows.{row_shape}
 
 abbrev pub listed : Rows → List Shape
-listed rows = shapes rows.places rows.count
+listed rows = map row_shape (items rows.list)
 
 abbrev pub book_list : Book → List Shape
 book_list b = listed b.rows

@@ -8,7 +8,7 @@ use Rattle.kinds.specs.Rows.{row_shape, row_lawful}
 
 -- The row of a kind's numbers, and its shape.
 abbrev pub kind_row : Kind → Row
-kind_row k = record { fields = k.fields; places = four_runs k.offset_0 k.length_0 k.offset_1 k.length_1 k.offset_2 k.length_2 k.offset_3 k.length_3; count = k.runs; few = k.few }
+kind_row k = record { fields = k.fields; runs = record { places = four_runs k.offset_0 k.length_0 k.offset_1 k.length_1 k.offset_2 k.length_2 k.offset_3 k.length_3; count = k.runs; few = k.few } }
 
 abbrev pub shape_of : Kind → Shape
 shape_of k = row_shape (kind_row k)

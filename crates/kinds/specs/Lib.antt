@@ -1,6 +1,7 @@
 pub mod Shapes
 pub mod Refusals
 pub mod Written
+pub mod Items
 pub mod Runs
 pub mod Rows
 pub mod Numbered

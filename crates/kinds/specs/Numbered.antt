@@ -1,9 +1,8 @@
 -- The shape that the numbers of a kind stand for.
-use Rattle.std.specs.Prelude.{ℕ, List, [], ◌∷◌}
+use Rattle.std.specs.Prelude.{ℕ, List, [], ◌∷◌, map, take}
 use Rattle.kinds.specs.declared.run.Run.{Run}
 use Rattle.kinds.specs.Shapes.{Shape}
-use Rattle.kinds.specs.Runs.{run_of}
-use Rattle.kinds.specs.Rows.{first_runs}
+use Rattle.kinds.specs.Runs.{run_pair, run_of}
 
 -- Four runs from their numbers.
 abbrev pub four_runs : (offset0 length0 offset1 length1 offset2 length2 offset3 length3 : ℕ) → List Run
@@ -11,4 +10,4 @@ four_runs offset0 length0 offset1 length1 offset2 length2 offset3 length3 = run_
 
 -- So many fields, and the first of the four runs, so many as `runs` says.
 abbrev pub shape_from : (fields runs offset0 length0 offset1 length1 offset2 length2 offset3 length3 : ℕ) → Shape
-shape_from fields runs offset0 length0 offset1 length1 offset2 length2 offset3 length3 = record { fields = fields; runs = first_runs runs (four_runs offset0 length0 offset1 length1 offset2 length2 offset3 length3) }
+shape_from fields runs offset0 length0 offset1 length1 offset2 length2 offset3 length3 = record { fields = fields; runs = map run_pair (take runs (four_runs offset0 length0 offset1 length1 offset2 length2 offset3 length3)) }

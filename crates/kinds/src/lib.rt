@@ -3,6 +3,7 @@
 #![tactic(auto)]
 
 pub mod book;
+pub mod fixed_list;
 pub mod kind;
 pub mod laws;
 pub mod numbers;

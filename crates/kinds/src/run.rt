@@ -10,9 +10,10 @@ pub struct Run {
 }
 
 impl Run {
+    ghost use Rattle.kinds.specs.Runs.{run_of};
+
     pub(crate) fn new(offset: u32, length: u32) -> Run
-        ensures offset { result.offset ≡ offset }
-        ensures length { result.length ≡ length }
+        ensures { result ≡ run_of offset length }
     {
         Run { offset, length }
     }

@@ -6,6 +6,7 @@ ghost use Rattle.kinds.specs.Said.{said};
 ghost use Rattle.kinds.specs.Kinds.{shape_of, accepted, kind_row, row_kind};
 
 use super::Kind;
+use crate::fixed_list::FixedList;
 use crate::refusal::Refusal;
 use crate::row::Row;
 use crate::run::Run;
@@ -18,10 +19,10 @@ impl TryFrom<Row> for Kind {
 
     fn try_from(row: Row) -> Result<Kind, Refusal> {
         if row.lawful() {
-            let [run_0, run_1, run_2, run_3] = row.places;
+            let [run_0, run_1, run_2, run_3] = row.runs.places;
             Ok(Kind {
                 fields: row.fields,
-                runs: row.count,
+                runs: row.runs.len() as u32,
                 offset_0: run_0.offset,
                 length_0: run_0.length,
                 offset_1: run_1.offset,
@@ -44,13 +45,15 @@ impl From<Kind> for Row {
     fn from(kind: Kind) -> Row {
         Row {
             fields: kind.fields,
-            places: [
-                Run::new(kind.offset_0, kind.length_0),
-                Run::new(kind.offset_1, kind.length_1),
-                Run::new(kind.offset_2, kind.length_2),
-                Run::new(kind.offset_3, kind.length_3),
-            ],
-            count: kind.runs,
+            runs: FixedList {
+                places: [
+                    Run::new(kind.offset_0, kind.length_0),
+                    Run::new(kind.offset_1, kind.length_1),
+                    Run::new(kind.offset_2, kind.length_2),
+                    Run::new(kind.offset_3, kind.length_3),
+                ],
+                count: kind.runs as usize,
+            },
         }
     }
 }

@@ -17,10 +17,10 @@ impl Row {
         let mut row = Row::new(*fields);
         let mut rest = rest;
         while let [offset, length, tail @ ..] = rest {
-            if row.is_full() {
+            if row.runs.is_full() {
                 return None;
             }
-            row.push(Run::new(*offset, *length));
+            row.runs.push(Run::new(*offset, *length));
             rest = tail;
         }
         if rest.is_empty() { Some(row) } else { None }

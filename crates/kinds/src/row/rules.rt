@@ -13,7 +13,7 @@ impl Row {
         ensures { result ≡ runs_fit 0 self.now.fields (row_runs self.now) }
     {
         let mut low = 0;
-        for run in self.runs() {
+        for run in self.runs.as_slice() {
             if !run.fits(low, self.fields) {
                 return false;
             }

@@ -17,6 +17,6 @@ any_within (r ∷ runs) field = ap (λ x. contains field r || x) (any_within run
 
 pub returns : goal.returns
 returns c =
-    any_from_yields_List (contains c.args.field) _ _ _ c.any.ensures.ran (YieldsList-from_slice c.runs.result.now cc) (λ x b q k. search (rules, tests)) ∙
-    any_within c.runs.result.now c.args.field ∙
-    ap (λ runs. within (map run_pair runs) c.args.field) c.runs.ensures
+    any_from_yields_List (contains c.args.field) _ _ _ c.any.ensures.ran (YieldsList-from_slice c.as_slice.result.now cc) (λ x b q k. search (rules, tests)) ∙
+    any_within c.as_slice.result.now c.args.field ∙
+    ap (λ runs. within (map run_pair runs) c.args.field) c.as_slice.ensures
