@@ -41,16 +41,16 @@ pub record Effect (s : State) (w k : ℕ) (ended : Bool) (t : State) : Type 0 wh
   pub end : ended ≡ true → (t.heap.due ≡ 0) × (t.heap.capacity ≤ t.heap.spare + t.heap.kept) × (0 < k)
 
 from_went : (s t : State) (k : ℕ) (ended : Bool) → Went s.heap k ended t.heap → Effect s 0 k ended t
-from_went s t k ended w = record { book = w.book; charges = w.charges; capacity = w.capacity; fixed = w.fixed; spare = omega arith; resting = w.resting; start = w.start; going = λ h. let g = w.going h in omega arith; on_made = w.on_made; on = w.on; end = w.end }
+from_went s t k ended w = grind arith
 
 from_same : (s : State) → Effect s 0 0 false s
-from_same s = record { book = refl; charges = refl; capacity = refl; fixed = refl; spare = omega arith; resting = λ h k. h; start = λ h k. omega arith; going = λ h. omega arith; on_made = λ e h. omega arith; on = λ e h. h; end = λ e. cc }
+from_same s = grind arith
 
 from_equal : (s t : State) → t.heap ≡ s.heap → Effect s 0 0 false t
-from_equal s t e = record { book = ap (λ (m : Meaning). m.book) e; charges = ap (λ (m : Meaning). m.charges) e; capacity = ap (λ (m : Meaning). m.capacity) e; fixed = ap (λ (m : Meaning). m.fixed) e; spare = let x = ap (λ (m : Meaning). m.spare) e in omega arith; resting = λ h k. let x = ap (λ (m : Meaning). m.due) e in omega arith; start = λ h k. omega arith; going = λ h. let x = ap (λ (m : Meaning). m.due) e in let y = ap (λ (m : Meaning). m.kept) e in omega arith; on_made = λ q h. omega arith; on = λ q h. let x = ap (λ (m : Meaning). m.due) e in omega arith; end = λ q. cc }
+from_equal s t e = grind arith
 
 from_accepted : (s t : State) (c : Call) → Accepted s.heap c t.heap → Effect s (paid s.heap.charges c) 0 false t
-from_accepted s t c a = record { book = a.book; charges = a.charges; capacity = a.capacity; fixed = a.fixed; spare = omega arith; resting = λ h k. omega arith; start = λ h k. omega arith; going = λ h. omega arith; on_made = λ q h. omega arith; on = λ q h. a.still h; end = λ q. cc }
+from_accepted s t c a = grind arith
 
 -- A call of the heap.
 from_called : (s t : State) (c : Call) (r : Reply) → Called s.heap c r t.heap → Effect s (if_gave (told r) (paid s.heap.charges c)) 0 false t
