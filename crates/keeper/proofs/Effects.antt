@@ -1,6 +1,6 @@
 -- What a call of the keeper does, in numbers: the summary from which the laws are proved.
 use Rattle.std.proofs.Common.{◌≡◌, ℕ, ◌+◌, ◌<◌, ◌≤◌, Bool, true, false, cond, ltb, leb, length, Some, None, Option, sym, refl, ap, ◌∙◌, subst₂, arith}
-use Rattle.std.proofs.lemmas.Bool.{ltb-true, leb-false}
+use Rattle.std.proofs.lemmas.Bool.Decides.{nat_tests}
 use Rattle.graph.specs.Calls.{Call, make, read, write, follow, link, hold, drop, look, spare, no_slot, paid}
 use Rattle.graph.specs.Meaning.{Meaning, Reply, gave, refused, Accepted, Called, live_words}
 use Rattle.graph.proofs.Accepted.{accepted}
@@ -13,18 +13,12 @@ abbrev pub Told : Meaning → ℕ → Reply → Type 0
 Told m k (gave _) = k < length m.book
 Told m k (refused n) = n ≡ 6 → (k < length m.book) × (m.spare < charge m k)
 
-six : (a b c d : Bool) {X Y : Type 0} → ◌≡◌ {A = ℕ} (cond a 1 (cond b 2 (cond c 6 (cond d 7 0)))) 6 → (b ≡ false → X) → (c ≡ true → Y) → X × Y
-six true b c d e p q = absurd (omega arith)
-six false true c d e p q = absurd (omega arith)
-six false false true d e p q = (p refl, q refl)
-six false false false true e p q = absurd (omega arith)
-six false false false false e p q = absurd (omega arith)
+six : (a : Bool) (n k w c : ℕ) (d : Bool) → ◌≡◌ {A = ℕ} (cond a 1 (cond (leb n k) 2 (cond (ltb w c) 6 (cond d 7 0)))) 6 → (k < n) × (w < c)
+six a n k w c d e = grind (arith, nat_tests)
 
 pub told_by : (m n : Meaning) (a k : ℕ) (r : Reply) → Called m (make a k) r n → Told m k r
 told_by m n a k (gave x) h = (accepted m.book m.charges m.spare m.graph (make a k) h.1.fine).1
-told_by m n a k (refused v) h =
-    λ e. six (no_slot m.graph a) (leb (length m.book) k) (ltb m.spare (charge m k)) (ltb 4294967295 m.graph.next) (h.0 ∙ e)
-    (leb-false (length m.book) k) (ltb-true m.spare (charge m k))
+told_by m n a k (refused v) h = λ e. six (no_slot m.graph a) (length m.book) k m.spare (charge m k) (ltb 4294967295 m.graph.next) (h.0 ∙ e)
 
 -- What a call does that made w words, k steps, and ended a cycle or not.
 pub record Effect (s : State) (w k : ℕ) (ended : Bool) (t : State) : Type 0 where
