@@ -1,5 +1,5 @@
 -- What a call of the keeper does, in numbers: the summary from which the laws are proved.
-use Rattle.std.proofs.Common.{◌≡◌, ℕ, ◌+◌, ◌<◌, ◌≤◌, Bool, true, false, cond, ltb, leb, length, Some, None, Option, sym, refl, ap, ◌∙◌, subst₂, arith}
+use Rattle.std.proofs.Common.{◌≡◌, ℕ, ◌+◌, ◌<◌, ◌≤◌, Bool, true, false, cond, ltb, leb, length, Some, None, Option, ap, ◌∙◌, arith}
 use Rattle.std.proofs.lemmas.Bool.Decides.{nat_tests}
 use Rattle.graph.specs.Calls.{Call, make, read, write, follow, link, hold, drop, look, spare, no_slot, paid}
 use Rattle.graph.specs.Meaning.{Meaning, Reply, gave, refused, Accepted, Called, live_words}
@@ -52,7 +52,7 @@ from_called s t c (gave _) h = from_accepted s t c h.1
 from_called s t c (refused _) h = from_equal s t h.2
 
 from_made : (o : Option ℕ) (s t : State) (a k : ℕ) (r : Reply) → Made o s a k r t → Effect s (if_gave (told r) (charge s.heap k)) 0 false t
-from_made (Some _) s t a k r h = subst₂ (λ v u. Effect s (if_gave (told v) (charge s.heap k)) 0 false u) (sym h.0) (sym h.1) (from_same s)
+from_made (Some _) s t a k r h = rw (h.0, h.1) (from_same s)
 from_made None s t a k r h = from_called s t (make a k) r h.called
 
 from_calls : (s t : State) (c : Call) (r : Reply) → Calls s c r t → Effect s (if_gave (told r) (paid s.heap.charges c)) 0 false t
