@@ -1,6 +1,6 @@
 -- What a call of the keeper does, in numbers: the summary from which the laws are proved.
-use Rattle.std.proofs.Common.{◌≡◌, ℕ, ◌+◌, ◌<◌, ◌≤◌, Bool, true, false, cond, ltb, leb, length, Some, None, Option, sym, refl, ap, ◌∙◌, subst₂, arith}
-use Rattle.std.proofs.lemmas.Bool.{ltb-true, leb-false}
+use Rattle.std.proofs.Common.{◌≡◌, ℕ, ◌+◌, ◌<◌, ◌≤◌, Bool, true, false, cond, ltb, leb, length, Some, None, Option, ap, ◌∙◌, arith}
+use Rattle.std.proofs.lemmas.Bool.Decides.{nat_tests}
 use Rattle.graph.specs.Calls.{Call, make, read, write, follow, link, hold, drop, look, spare, no_slot, paid}
 use Rattle.graph.specs.Meaning.{Meaning, Reply, gave, refused, Accepted, Called, live_words}
 use Rattle.graph.proofs.Accepted.{accepted}
@@ -13,18 +13,12 @@ abbrev pub Told : Meaning → ℕ → Reply → Type 0
 Told m k (gave _) = k < length m.book
 Told m k (refused n) = n ≡ 6 → (k < length m.book) × (m.spare < charge m k)
 
-six : (a b c d : Bool) {X Y : Type 0} → ◌≡◌ {A = ℕ} (cond a 1 (cond b 2 (cond c 6 (cond d 7 0)))) 6 → (b ≡ false → X) → (c ≡ true → Y) → X × Y
-six true b c d e p q = absurd (omega arith)
-six false true c d e p q = absurd (omega arith)
-six false false true d e p q = (p refl, q refl)
-six false false false true e p q = absurd (omega arith)
-six false false false false e p q = absurd (omega arith)
+six : (a : Bool) (n k w c : ℕ) (d : Bool) → ◌≡◌ {A = ℕ} (cond a 1 (cond (leb n k) 2 (cond (ltb w c) 6 (cond d 7 0)))) 6 → (k < n) × (w < c)
+six a n k w c d e = grind (arith, nat_tests)
 
 pub told_by : (m n : Meaning) (a k : ℕ) (r : Reply) → Called m (make a k) r n → Told m k r
 told_by m n a k (gave x) h = (accepted m.book m.charges m.spare m.graph (make a k) h.1.fine).1
-told_by m n a k (refused v) h =
-    λ e. six (no_slot m.graph a) (leb (length m.book) k) (ltb m.spare (charge m k)) (ltb 4294967295 m.graph.next) (h.0 ∙ e)
-    (leb-false (length m.book) k) (ltb-true m.spare (charge m k))
+told_by m n a k (refused v) h = λ e. six (no_slot m.graph a) (length m.book) k m.spare (charge m k) (ltb 4294967295 m.graph.next) (h.0 ∙ e)
 
 -- What a call does that made w words, k steps, and ended a cycle or not.
 pub record Effect (s : State) (w k : ℕ) (ended : Bool) (t : State) : Type 0 where
@@ -41,16 +35,16 @@ pub record Effect (s : State) (w k : ℕ) (ended : Bool) (t : State) : Type 0 wh
   pub end : ended ≡ true → (t.heap.due ≡ 0) × (t.heap.capacity ≤ t.heap.spare + t.heap.kept) × (0 < k)
 
 from_went : (s t : State) (k : ℕ) (ended : Bool) → Went s.heap k ended t.heap → Effect s 0 k ended t
-from_went s t k ended w = record { book = w.book; charges = w.charges; capacity = w.capacity; fixed = w.fixed; spare = omega arith; resting = w.resting; start = w.start; going = λ h. let g = w.going h in omega arith; on_made = w.on_made; on = w.on; end = w.end }
+from_went s t k ended w = grind arith
 
 from_same : (s : State) → Effect s 0 0 false s
-from_same s = record { book = refl; charges = refl; capacity = refl; fixed = refl; spare = omega arith; resting = λ h k. h; start = λ h k. omega arith; going = λ h. omega arith; on_made = λ e h. omega arith; on = λ e h. h; end = λ e. cc }
+from_same s = grind arith
 
 from_equal : (s t : State) → t.heap ≡ s.heap → Effect s 0 0 false t
-from_equal s t e = record { book = ap (λ (m : Meaning). m.book) e; charges = ap (λ (m : Meaning). m.charges) e; capacity = ap (λ (m : Meaning). m.capacity) e; fixed = ap (λ (m : Meaning). m.fixed) e; spare = let x = ap (λ (m : Meaning). m.spare) e in omega arith; resting = λ h k. let x = ap (λ (m : Meaning). m.due) e in omega arith; start = λ h k. omega arith; going = λ h. let x = ap (λ (m : Meaning). m.due) e in let y = ap (λ (m : Meaning). m.kept) e in omega arith; on_made = λ q h. omega arith; on = λ q h. let x = ap (λ (m : Meaning). m.due) e in omega arith; end = λ q. cc }
+from_equal s t e = grind arith
 
 from_accepted : (s t : State) (c : Call) → Accepted s.heap c t.heap → Effect s (paid s.heap.charges c) 0 false t
-from_accepted s t c a = record { book = a.book; charges = a.charges; capacity = a.capacity; fixed = a.fixed; spare = omega arith; resting = λ h k. omega arith; start = λ h k. omega arith; going = λ h. omega arith; on_made = λ q h. omega arith; on = λ q h. a.still h; end = λ q. cc }
+from_accepted s t c a = grind arith
 
 -- A call of the heap.
 from_called : (s t : State) (c : Call) (r : Reply) → Called s.heap c r t.heap → Effect s (if_gave (told r) (paid s.heap.charges c)) 0 false t
@@ -58,7 +52,7 @@ from_called s t c (gave _) h = from_accepted s t c h.1
 from_called s t c (refused _) h = from_equal s t h.2
 
 from_made : (o : Option ℕ) (s t : State) (a k : ℕ) (r : Reply) → Made o s a k r t → Effect s (if_gave (told r) (charge s.heap k)) 0 false t
-from_made (Some _) s t a k r h = subst₂ (λ v u. Effect s (if_gave (told v) (charge s.heap k)) 0 false u) (sym h.0) (sym h.1) (from_same s)
+from_made (Some _) s t a k r h = rw (h.0, h.1) (from_same s)
 from_made None s t a k r h = from_called s t (make a k) r h.called
 
 from_calls : (s t : State) (c : Call) (r : Reply) → Calls s c r t → Effect s (if_gave (told r) (paid s.heap.charges c)) 0 false t

@@ -1,5 +1,5 @@
 -- Orders played one after the other: one more at the end, and the history and the laws of all of them.
-use Rattle.std.proofs.Common.{◌≡◌, ℕ, ◌+◌, ◌<◌, ◌≤◌, List, [], ◌∷◌, ◌++◌, length, get_or, take, Some, None, Option, sym, refl, subst, subst₂}
+use Rattle.std.proofs.Common.{◌≡◌, ℕ, ◌+◌, ◌<◌, ◌≤◌, List, [], ◌∷◌, ◌++◌, length, get_or, take, Some, None, Option, refl}
 use Rattle.std.proofs.lemmas.List.{take_more, take_all}
 use Rattle.graph.specs.Meaning.{Opened}
 use Rattle.keeper.specs.declared.orders.Order.{Order}
@@ -21,7 +21,7 @@ one o w s t held (Some c) (Some x) e f h = (record { before = s; ask = c; said =
 one o w s t held (Some c) None e f h = absurd h
 one o w s t held None (Some x) e f h = absurd h
 one o w s t held None None e f h =
-    ([], subst (λ (u : State). Played s held (o ∷ []) (w ∷ []) [] u (held_after held o w)) (sym h) (passed e (subst (λ (u : State). said_by w u ≡ None) h f) none))
+    ([], rw h (passed e (rw h at f) none))
 
 more : {s u : State} {held mid : List ℕ} {os : List Order} {ws : List Reply} {es : List Moment} → Played s held os ws es u mid → (o : Order) (w : Reply) (t : State) → Taken (asked o mid) (said_by w t) u t → (fs : List Moment) × Played s held (os ++ (o ∷ [])) (ws ++ (w ∷ [])) fs t (held_after mid o w)
 more (none {s = s} {held = held}) o w t h = one o w s t held (asked o held) (said_by w t) refl refl h
@@ -30,13 +30,9 @@ more (passed q a p) o w t h = let r = more p o w t h in (r.0, passed q a r.1)
 
 pub next_order : (s u t : State) (held mid left : List ℕ) (os : List Order) (ws ws' : List Reply) (i : ℕ) (d : Order) (w : Reply) → i < length os → ws' ≡ ws ++ (w ∷ []) → left ≡ held_after mid (get_or os i d) w → (es : List Moment) × Played s held (take i os) ws es u mid → Taken (asked (get_or os i d) mid) (said_by w t) u t → (fs : List Moment) × Played s held (take (i + 1) os) ws' fs t left
 next_order s u t held mid left os ws ws' i d w l e f p h =
-    let m = more p.1 (get_or os i d) w t h in (
-      m.0,
-      subst (λ (k : List ℕ). Played s held (take (i + 1) os) ws' m.0 t k) (sym f)
-          (subst₂ (λ (xs : List Order) (ys : List Reply). Played s held xs ys m.0 t (held_after mid (get_or os i d) w)) (sym (take_more os i d l)) (sym e) m.1),
-    )
+    let m = more p.1 (get_or os i d) w t h in (m.0, rw (f, e, take_more os i d l) m.1)
 
 pub all_orders : (s t : State) (held left : List ℕ) (os : List Order) (ws : List Reply) (i : ℕ) → Grounds s → ((first : ℕ) → Opened first s.heap → New s) → length os ≤ i → (es : List Moment) × Played s held (take i os) ws es t left → Ran s held os ws t left
 all_orders s t held left os ws i g n l p =
-    let q = subst (λ (xs : List Order). Played s held xs ws p.0 t left) (take_all i os l) p.1 in
+    let q = rw (take_all i os l) at p.1 in
     record { moments = p.0; played = q; history = history q; lawful = λ first o. law s t p.0 g (n first o) (history q) }

@@ -1,14 +1,12 @@
 -- The third law: with enough capacity no make is refused for want of space. Over fixed numbers: what is in use at a cycle's end is
 -- at most L and what was made in it; what is made between two ends is at most Q = (F + L) / r rounded up, and one record.
-use Rattle.std.proofs.Common.{◌≡◌, ℕ, ◌+◌, ◌-◌, ◌*◌, ◌<◌, ◌≤◌, min, Bool, true, false, List, [], ◌∷◌, length, get_or, Some, None, Option, sym, refl, ap, ◌∙◌, subst, inl, inr, mul_comm, mul-zero, le-div_iff_mul-le, arith}
-use Rattle.kinds.specs.Shapes.{Shape}
+use Rattle.std.proofs.Common.{◌≡◌, ℕ, ◌+◌, ◌-◌, ◌*◌, ◌<◌, ◌≤◌, min, Bool, true, false, List, [], ◌∷◌, length, Some, None, Option, sym, refl, ap, ◌∙◌, mul_comm, mul-zero, le-div_iff_mul-le, arith}
 use Rattle.graph.specs.Calls.{Call, make, read, write, follow, link, hold, drop, look, spare, paid, word, done, known}
 use Rattle.graph.specs.Meaning.{Meaning, Reply, gave, refused, live_words}
 use Rattle.keeper.specs.Keeping.{State, Ask, call, idle, settle, Said, told, idled, settled, unsettled, charge, cap, Passed, Made, Making, Counted, Calls, Event}
 use Rattle.keeper.specs.History.{Moment, History, none, then, New, Grounds, Sized, Fits, Roomy, Each, quotient, steps_in, ended_in, price, if_gave}
-use Rattle.std.proofs.Math.Nat.{eq-zero-or-pos}
 use Rattle.keeper.proofs.Steps.{whole}
-use Rattle.keeper.proofs.Effects.{Effect, effect, Told, told_by}
+use Rattle.keeper.proofs.Effects.{Effect, effect, told_by}
 
 -- What may be made and not yet settled.
 abbrev pub slack : Option ℕ → ℕ → ℕ
@@ -49,10 +47,10 @@ record Inv (z : Terms) (s : State) : Type 0 where
   pub paid : z.r * paying ≤ s.steps
 
 same_charges : (M : ℕ) (m n : Meaning) → n.book ≡ m.book → n.charges ≡ m.charges → ((k : ℕ) → k < length m.book → charge m k ≤ M) → (k : ℕ) → k < length n.book → charge n k ≤ M
-same_charges M m n b c h i p = subst (λ (l : List ℕ). get_or l i 0 ≤ M) (sym c) (h i (subst (λ (l : List Shape). i < length l) b p))
+same_charges M m n b c h i p = rw c (h i (rw b at p))
 
 same_asks : (r : ℕ) (f g : ℕ → ℕ → ℕ → ℕ) → g ≡ f → ((steps words left : ℕ) → r * words ≤ steps + f steps words left) → (steps words left : ℕ) → r * words ≤ steps + g steps words left
-same_asks r f g e h steps words left = subst (λ (k : ℕ → ℕ → ℕ → ℕ). r * words ≤ steps + k steps words left) (sym e) (h steps words left)
+same_asks r f g e h steps words left = rw e (h steps words left)
 
 -- At most so many words are made between two ends.
 few : (z : Terms) (s : State) (i : Inv z s) → s.words ≤ z.Q + slack s.bill z.M
@@ -175,11 +173,11 @@ passed_step : (z : Terms) (s t : State) (c : Call) (r : Reply) → Effect s (if_
 passed_step z s t c r e n p i = free_step z s t (wordless r e) p.rate p.asks p.steps p.words p.bill i
   where
     wordless : (r : Reply) → Effect s (if_gave (told r) (paid s.heap.charges c)) 0 false t → Effect s 0 0 false t
-    wordless (gave _) e = subst (λ w. Effect s w 0 false t) n e
+    wordless (gave _) e = rw n at e
     wordless (refused _) e = e
 
 same_step : (z : Terms) (s t : State) → t ≡ s → Inv z s → Inv z t
-same_step z s t e i = subst (λ (u : State). Inv z u) (sym e) i
+same_step z s t e i = rw e i
 
 making_step : (z : Terms) (s t : State) (a k : ℕ) (r : Reply) → Effect s (if_gave (told r) (charge s.heap k)) 0 false t → s.bill ≡ None → Making s a k r t → Inv z s → Inv z t
 making_step z s t a k (gave done) e b h i = let u = h.called.0 in cc
@@ -233,12 +231,12 @@ not_full z s k b p q i =
 fits_by : (z : Terms) (s t : State) (a k : ℕ) (r : Reply) (o : Option ℕ) → s.bill ≡ o → Made o s a k r t → Inv z s → r ≡ refused 6 → ⊥
 fits_by z s t a k r (Some _) b h i e = let u = h.0 in cc
 fits_by z s t a k r None b h i e =
-    let f = subst (λ (v : Reply). Told s.heap k v) e (told_by s.heap t.heap a k r h.called) refl in
+    let f = (rw e at (told_by s.heap t.heap a k r h.called)) refl in
     not_full z s k b f.0 f.1 i
 
 fits_step : (z : Terms) (s t : State) (c : Ask) (x : Said) → Event s c x t → Inv z s → (a k : ℕ) → c ≡ call (make a k) → x ≡ told (refused 6) → ⊥
 fits_step z s t c x h i a k e f =
-    fits_by z s t a k (refused 6) s.bill refl (subst (λ (v : Said). Event s (call (make a k)) v t) f (subst (λ (v : Ask). Event s v x t) e h)) i refl
+    fits_by z s t a k (refused 6) s.bill refl (rw (e, f) at h) i refl
 
 all_fit : (z : Terms) (es : List Moment) {s t : State} → History s es t → live_words s.heap ≤ z.L → Each (λ e. live_words e.after.heap ≤ z.L) es → Inv z s → Each Fits es
 all_fit z [] none l a i = tt

@@ -1,5 +1,5 @@
 -- What an idle of many steps does, from what each step does.
-use Rattle.std.proofs.Common.{◌≡◌, ℕ, zero, suc, ◌+◌, ◌<◌, ◌≤◌, Bool, true, false, ◌&&◌, eqb, ltb, sym, refl, ap, ◌∙◌, arith}
+use Rattle.std.proofs.Common.{◌≡◌, ℕ, suc, ◌+◌, ◌<◌, ◌≤◌, Bool, true, false, ◌&&◌, eqb, ltb, refl, ap, ◌∙◌, arith}
 use Rattle.std.proofs.lemmas.Bool.Decides.{nat_tests}
 use Rattle.graph.specs.Meaning.{Meaning, live_words}
 use Rattle.graph.specs.Cycle.{Idled}
@@ -21,8 +21,8 @@ pub record Went (m : Meaning) (made : ℕ) (ended : Bool) (o : Meaning) : Type 0
   pub end : ended ≡ true → (o.due ≡ 0) × (o.capacity ≤ o.spare + o.kept) × (0 < made)
 
 pub went : {m : Meaning} {n made : ℕ} {ended : Bool} {o : Meaning} → Idled m n made ended o → Went m made ended o
-went stop = record { graph = refl; book = refl; charges = refl; capacity = refl; fixed = refl; spare = omega arith; resting = λ h k. h; start = λ h k. omega arith; going = λ h. omega arith; on_made = λ e h. omega arith; on = λ e h. h; end = λ e. cc }
-went (last st p) = record { graph = st.graph; book = st.book; charges = st.charges; capacity = st.capacity; fixed = st.fixed; spare = st.spare; resting = λ h k. p; start = λ h k. let s = st.start h in omega arith; going = λ h. let s = st.other h in omega arith; on_made = λ e h. cc; on = λ e h. cc; end = λ e. let s = st.end p in omega arith }
+went stop = grind arith
+went (last st p) = grind arith
 went (more st p r) =
     let w = went r in
     let g = w.going p in
