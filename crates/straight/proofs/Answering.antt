@@ -1,8 +1,8 @@
 -- What the functions of the straight heap's space ask and promise, from the invariant.
 use Rattle.std.proofs.Common.{◌≡◌, ℕ, ◌+◌, ◌-◌, ◌<◌, ◌≤◌, true, false, eqb, length, sym, ap, ◌∙◌, subst, ⊎_elim, arith}
-use Rattle.std.proofs.lemmas.Bool.{cases_eq, cond-false, eq-eqb, ne_eqb}
+use Rattle.std.proofs.lemmas.Bool.{cases_eq, eq-eqb, ne_eqb}
 use Rattle.graph.specs.Graph.{Record, size}
-use Rattle.graph.specs.Calls.{Call, make, read, write, follow, link, look, known, Answer, slot, held}
+use Rattle.graph.specs.Calls.{Call, make, read, write, follow, link, look, Answer, slot, held}
 use Rattle.graph.specs.Meaning.{refusal, gave, Called}
 use Rattle.straight.specs.Words.{State, reference, place, word_at, words_after, words_answer, Held, Full, Room}
 use Rattle.straight.specs.Layout.{raw_of, meaning_of}
@@ -78,12 +78,6 @@ module _ (s : State) (h : ∥ Whole s ∥₁) where
 
   pub look_full : (a : ℕ) → refusal (meaning_of s) (look a) ≡ 0 → 0 < reference s a → Full s a
   look_full a f z = full_at a (count_below s w a (allowed s w (look a) f)) z
-
-  pub look_empty : (a : ℕ) → reference s a ≡ 0 → known 0 0 ≡ words_answer s (look a)
-  look_empty a e = rw e
-
-  pub look_known : (a n k : ℕ) → 0 < reference s a → n ≡ word_at s (place s a) → k ≡ word_at s (place s a + 1) → known n k ≡ words_answer s (look a)
-  look_known a n k z e f = rw (e, f) (sym (cond-false (eqb (reference s a) 0) (known 0 0) _ (ne_eqb (reference s a) 0 (λ x. omega arith))))
 
   pub make_room : (a k : ℕ) → refusal (meaning_of s) (make a k) ≡ 0 → Room s a k
   make_room a k f =

@@ -6,4 +6,5 @@ pub mod Making
 pub mod Calling
 pub mod Openings
 pub mod Answering
+pub mod Called
 pub mod Keeping

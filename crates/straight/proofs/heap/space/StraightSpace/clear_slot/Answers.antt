@@ -1,11 +1,10 @@
 use Rattle.std.proofs.Common.{refl}
 use Rattle.graph.specs.Calls.{drop, done}
-use Rattle.straight.specs.Stored.{state}
-use Rattle.straight.proofs.Answering.{after_whole, after_called}
+use Rattle.straight.proofs.Called.{kept, called}
 use Rattle.straight.proofs.heap.space.StraightSpace.clear_slot.Goals as goal
 
 pub invariant_of-self : goal.invariant_of-self
-invariant_of-self c = record { whole = after_whole (state c.args.self.now.store) c.args.self.now.whole (state c.empty.new.self) (drop c.args.slot) c.requires c.empty.ensures }
+invariant_of-self c = record { whole = kept c.args.self.now (drop c.args.slot) c.requires c.empty.ensures }
 
 pub returns-clause-means : goal.returns-clause-means
-returns-clause-means c = after_called (state c.args.self.now.store) c.args.self.now.whole (state c.empty.new.self) (drop c.args.slot) (done) c.requires refl c.empty.ensures
+returns-clause-means c = called c.args.self.now (drop c.args.slot) c.requires done refl c.empty.ensures
