@@ -6,7 +6,7 @@ use std::alloc::AllocError;
 
 /// At most `N` items, in the first places. A place past them is not used.
 // Kept: an array and its count, since rows and sealed books lie in fixed memory and are copied, and an ArrayVec is not Copy.
-pub struct FixedList<T, const N: usize> {
+pub(crate) struct FixedList<T, const N: usize> {
     pub(crate) places: [T; N],
     pub(crate) count: usize,
     ghost few: { count ≤ N },

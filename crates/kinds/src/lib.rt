@@ -3,12 +3,12 @@
 #![tactic(auto)]
 
 pub mod book;
-pub mod fixed_list;
+mod fixed_list;
 pub mod kind;
 pub mod laws;
 pub mod numbers;
 pub mod refusal;
 pub mod row;
-pub mod run;
+mod run;
 #[cfg(test)]
 mod tests;

@@ -12,7 +12,7 @@ fn refused(numbers: &[u32]) -> Option<u32> {
 
 #[test]
 fn two_runs(rt: HostRuntime) -> Result<(), Fail> {
-    let kind = Kind::try_from(&[3, 0, 1, 2, 1][..])?;
+    let kind = Kind::try_from(&[3u32, 0, 1, 2, 1][..])?;
     assert!(rt; kind.refers(0));
     assert!(rt; !kind.refers(1));
     assert!(rt; kind.refers(2));
