@@ -2,11 +2,12 @@
 use Rattle.std.proofs.Common.{◌≡◌, ℕ, zero, suc, ◌<◌, true, eqb, ◌⊎◌, List, [], ◌∷◌, map, length, get_or, set, sym, refl, ap, ◌∙◌, subst, inl, inr, ⊎_elim, arith}
 use Rattle.kinds.specs.Shapes.{Shape}
 use Rattle.std.proofs.lemmas.Bool.{eqb-true, eqb-false, eq-eqb, ne_eqb, cases_eq, cases_lt, cond_both, cond-true, cond-false}
-use Rattle.std.proofs.lemmas.List.{length-set, get_or-set_same, get_or-set_other, get_or_past, get_or-replicate, length-replicate}
-use Rattle.graph.specs.Graph.{Record, Graph, size, refers, ◌∈◌, Names, Reached, by_slot, by_field, prune}
+use Rattle.std.proofs.lemmas.List.{length-set, get_or-set_same, get_or-set_other, get_or_past}
+use Rattle.graph.specs.Graph.{Record, Graph, refers, ◌∈◌, Names, Reached, by_slot, by_field, prune}
 use Rattle.graph.specs.Calls.{make, no_record, find, put, fresh, held, changed}
 use Rattle.graph.specs.Sound.{Distinct, Sound, Same, Slot}
 use Rattle.graph.proofs.Prune.{same_prune, prune_distinct, in_prune}
+use Rattle.std.proofs.lemmas.Grind.{common_steps}
 
 -- find
 pub find_in : (rs : List Record) (r : Record) (n : ℕ) → Distinct rs → r ∈ rs → r.number ≡ n → find rs n ≡ r
@@ -77,27 +78,19 @@ map_distinct f n (r ∷ rs) d =
     ((λ s i e. let k = in_map f rs s i in d.0 k.0 k.1 (sym (n r) ∙ e ∙ ap (λ (q : Record). q.number) k.2 ∙ n k.0)), map_distinct f n rs d.1)
 
 pub put_number : (n i v : ℕ) (r : Record) → (put n i v r).number ≡ r.number
-put_number n i v r = cond_both (eqb r.number n) (record { number = r.number; kind = r.kind; fields = set r.fields i v }) r (λ (q : Record). q.number ≡ r.number) (λ _. refl) (λ _. refl)
+put_number n i v r = grind (arith, common_steps)
 
 pub put_kind : (n i v : ℕ) (r : Record) → (put n i v r).kind ≡ r.kind
-put_kind n i v r = cond_both (eqb r.number n) (record { number = r.number; kind = r.kind; fields = set r.fields i v }) r (λ (q : Record). q.kind ≡ r.kind) (λ _. refl) (λ _. refl)
+put_kind n i v r = grind (arith, common_steps)
 
 pub put_length : (n i v : ℕ) (r : Record) → length (put n i v r).fields ≡ length r.fields
-put_length n i v r = cond_both (eqb r.number n) (record { number = r.number; kind = r.kind; fields = set r.fields i v }) r (λ (q : Record). length q.fields ≡ length r.fields) (λ _. length-set r.fields i v) (λ _. refl)
+put_length n i v r = grind (arith, common_steps)
 
 set_names : (book : List Shape) (r : Record) (i v m : ℕ) → Names book (record { number = r.number; kind = r.kind; fields = set r.fields i v }) m → Names book r m ⊎ ((m ≡ v) × (refers book r.kind i ≡ true))
-set_names book r i v m s =
-    let l : s.place < length r.fields = subst (λ n. s.place < n) (length-set r.fields i v) s.below in
-    ⊎_elim
-    (λ e. inr (sym s.is ∙ ap (λ k. get_or (set r.fields i v) k 0) e ∙ get_or-set_same r.fields i v 0 (subst (λ k. k < length r.fields) e l), subst (λ k. refers book r.kind k ≡ true) e s.reference))
-    (λ ne. inl (record { place = s.place; below = l; reference = s.reference; is = sym (get_or-set_other r.fields i s.place v 0 ne) ∙ s.is }))
-    (cases_eq s.place i)
+set_names book r i v m s = grind (arith, common_steps)
 
 pub put_names : (book : List Shape) (n i v m : ℕ) (r : Record) → Names book (put n i v r) m → Names book r m ⊎ ((r.number ≡ n) × (m ≡ v) × (refers book r.kind i ≡ true))
-put_names book n i v m r =
-    cond_both (eqb r.number n) (record { number = r.number; kind = r.kind; fields = set r.fields i v }) r (λ (q : Record). Names book q m → Names book r m ⊎ ((r.number ≡ n) × (m ≡ v) × (refers book r.kind i ≡ true)))
-    (λ b s. ⊎_elim (λ k. inl k) (λ k. inr (eqb-true r.number n b, k.0, k.1)) (set_names book r i v m s))
-    (λ _ s. inl s)
+put_names book n i v m r = grind (arith, common_steps)
 
 -- nothing but what was reached is reached after
 pub slots_down : (book : List Shape) (g : Graph) (xs : List ℕ) (n' : ℕ) → ((a : ℕ) → a < length xs → 0 < get_or xs a 0 → Reached book g (get_or xs a 0)) → {n : ℕ} → Reached book (record { slots = xs; next = n'; records = g.records }) n → Reached book g n
@@ -122,9 +115,7 @@ map_down book g f same ok {n} (by_field t i q s z) =
     ok k.0 k.1 (subst (λ m. Reached book g m) p (map_down book g f same ok q)) n (subst (λ (x : Record). Names book x n) k.2 s) z
 
 fresh_names : (book : List Shape) (n k m : ℕ) → Names book (fresh book n k) m → m ≡ 0
-fresh_names book n k m s =
-    let l : s.place < size book k = subst (λ x. s.place < x) (length-replicate (size book k) 0) s.below in
-    sym s.is ∙ get_or-replicate (size book k) s.place 0 0 l
+fresh_names book n k m s = grind (arith, common_steps)
 
 pub make_down : (book : List Shape) (g : Graph) → Sound book g → (a k : ℕ) → Slot g a → {n : ℕ} → Reached book (changed book g (make a k)) n → Reached book g n ⊎ (n ≡ g.next)
 make_down book g w a k l (by_slot b lb e z) =

@@ -4,18 +4,19 @@ use Rattle.std.proofs.lemmas.Bool.{cond_both, cond-true, leb-true, leb-false}
 use Rattle.graph.specs.Graph.{Record, ◌∈◌, insert, sort, select}
 use Rattle.graph.specs.Calls.{total}
 use Rattle.graph.specs.Sound.{Distinct, Rising}
+use Rattle.std.proofs.lemmas.Grind.{common_steps}
 
 -- two rising lists with the same records are one list
 apart : (r s : Record) → r.number < s.number → s ≡ r → ⊥
-apart r s l e = let k : s.number ≡ r.number = ap (λ (q : Record). q.number) e in omega arith
+apart r s l e = grind (arith, common_steps)
 
 heads : (x y : Record) (xs ys : List Record) → Rising (x ∷ xs) → Rising (y ∷ ys) → (x ≡ y) ⊎ (x ∈ ys) → (y ≡ x) ⊎ (y ∈ xs) → x ≡ y
 heads x y xs ys a b (inl e) q = e
 heads x y xs ys a b (inr i) (inl e) = sym e
-heads x y xs ys a b (inr i) (inr j) = let k : x.number < y.number = a.0 y j in let l : y.number < x.number = b.0 x i in absurd (omega arith)
+heads x y xs ys a b (inr i) (inr j) = grind (arith, common_steps)
 
 tails : (x y : Record) (xs ys : List Record) → Rising (x ∷ xs) → x ≡ y → ((r : Record) → r ∈ (x ∷ xs) → r ∈ (y ∷ ys)) → (r : Record) → r ∈ xs → r ∈ ys
-tails x y xs ys a e f r i = ⊎_elim (λ k. absurd (apart x r (a.0 r i) (k ∙ sym e))) (λ k. k) (f r (inr i))
+tails x y xs ys a e f r i = grind (arith, common_steps)
 
 pub rising_same : (xs ys : List Record) → Rising xs → Rising ys → ((r : Record) → r ∈ xs → r ∈ ys) → ((r : Record) → r ∈ ys → r ∈ xs) → xs ≡ ys
 rising_same [] [] a b f h = refl

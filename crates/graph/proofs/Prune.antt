@@ -7,6 +7,8 @@ use Rattle.graph.specs.Calls.{total, live}
 use Rattle.graph.specs.Sound.{Distinct, Rising, Same}
 use Rattle.graph.proofs.Reach.{reached_sound, reached_complete}
 use Rattle.graph.proofs.Order.{rising_same, in_sort, sort_in, sort_rising, rising_distinct, in_select, select_in, select_distinct, total_sort}
+use Rattle.std.proofs.Common.{arith}
+use Rattle.std.proofs.lemmas.Grind.{common_steps}
 
 pub same_reached : (book : List Shape) (g h : Graph) → Same book g h → {n : ℕ} → Reached book g n → Reached book h n
 same_reached book g h s (by_slot a l e z) = by_slot a (subst (λ xs. a < length xs) s.slots l) (ap (λ xs. get_or xs a 0) (sym s.slots) ∙ e) z
@@ -23,7 +25,7 @@ pub same_trans : (book : List Shape) (g h k : Graph) → Same book g h → Same 
 same_trans book g h k s t = record { slots = s.slots ∙ t.slots; next = s.next ∙ t.next; there = λ r i q. t.there r (s.there r i q) (same_reached book g h s q); back = λ r i q. s.back r (t.back r i (same_reached book g h s q)) q }
 
 pub same_refl : (book : List Shape) (g : Graph) → Same book g g
-same_refl book g = record { slots = refl; next = refl; there = λ r i q. i; back = λ r i q. i }
+same_refl book g = grind (arith, common_steps)
 
 -- A record of the canonical graph is one of the graph's, and reached; and the other way round.
 pub in_prune : (book : List Shape) (g : Graph) (r : Record) → r ∈ (prune book g).records → (r ∈ g.records) × Reached book g r.number
@@ -47,7 +49,7 @@ unfolding prune
 prune_next book g = refl
 
 pub graph_path : (g h : Graph) → g.slots ≡ h.slots → g.next ≡ h.next → g.records ≡ h.records → g ≡ h
-graph_path g h p q r = λ i. record { slots = p i; next = q i; records = r i }
+graph_path g h p q r = grind (arith, common_steps)
 
 pub prune_same : (book : List Shape) (g h : Graph) → Same book g h → Distinct g.records → Distinct h.records → prune book g ≡ prune book h
 prune_same book g h s d e =

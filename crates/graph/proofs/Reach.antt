@@ -3,6 +3,8 @@ use Rattle.std.proofs.Common.{◌≡◌, ℕ, zero, suc, ◌<◌, Bool, true, �
 use Rattle.kinds.specs.Shapes.{Shape}
 use Rattle.std.proofs.lemmas.Bool.{or_cases, or_left, or_right, and_parts, and_from, eqb-true, eq-eqb, ltb-true, lt-ltb, false≢true}
 use Rattle.graph.specs.Graph.{Record, Graph, refers, ◌∈◌, Names, Reached, by_slot, by_field, any, holds, names, edge, path, number, reached}
+use Rattle.std.proofs.Common.{arith}
+use Rattle.std.proofs.lemmas.Grind.{common_steps}
 
 -- any
 pub any_found : {X : Type 0} (p : X → Bool) (xs : List X) → any p xs ≡ true → (x : X) × (x ∈ xs) × (p x ≡ true)
@@ -67,15 +69,15 @@ module _ (e : ℕ → ℕ → Bool) where
 
   into : (ms : List ℕ) (m i j : ℕ) → path e (m ∷ ms) i j ≡ true → (path e ms i j ≡ true) ⊎ ((path e ms i m ≡ true) × (path e ms m j ≡ true))
   unfolding path
-  into ms m i j h = ⊎_elim (λ k. inl k) (λ k. inr (and_parts (path e ms i m) (path e ms m j) k)) (or_cases (path e ms i j) (path e ms i m && path e ms m j) h)
+  into ms m i j h = grind (arith, common_steps)
 
   over : (ms : List ℕ) (m i j : ℕ) → path e ms i m ≡ true → path e ms m j ≡ true → path e (m ∷ ms) i j ≡ true
   unfolding path
-  over ms m i j p q = or_right (path e ms i j) (path e ms i m && path e ms m j) (and_from (path e ms i m) (path e ms m j) p q)
+  over ms m i j p q = grind (arith, common_steps)
 
   more : (ms : List ℕ) (m i j : ℕ) → path e ms i j ≡ true → path e (m ∷ ms) i j ≡ true
   unfolding path
-  more ms m i j p = or_left (path e ms i j) (path e ms i m && path e ms m j) p
+  more ms m i j p = grind (arith, common_steps)
 
   to_itself : (ms : List ℕ) (m i : ℕ) → path e (m ∷ ms) i m ≡ true → path e ms i m ≡ true
   to_itself ms m i h = ⊎_elim (λ k. k) (λ k. k.0) (into ms m i m h)
@@ -112,12 +114,10 @@ abbrev leads : List Shape → Graph → ℕ → ℕ → Bool
 leads book g n s = ltb 0 s && (eqb s n || path (edge book g.records) (map number g.records) s n)
 
 leads_from : (book : List Shape) (g : Graph) (n s : ℕ) → 0 < s → (s ≡ n) ⊎ (path (edge book g.records) (map number g.records) s n ≡ true) → leads book g n s ≡ true
-leads_from book g n s l h = and_from (ltb 0 s) (eqb s n || path (edge book g.records) (map number g.records) s n) (lt-ltb 0 s l) (⊎_elim (λ e. or_left (eqb s n) (path (edge book g.records) (map number g.records) s n) (eq-eqb s n e)) (λ e. or_right (eqb s n) (path (edge book g.records) (map number g.records) s n) e) h)
+leads_from book g n s l h = grind (arith, common_steps)
 
 leads_found : (book : List Shape) (g : Graph) (n s : ℕ) → leads book g n s ≡ true → (0 < s) × ((s ≡ n) ⊎ (path (edge book g.records) (map number g.records) s n ≡ true))
-leads_found book g n s h =
-    let z = and_parts (ltb 0 s) (eqb s n || path (edge book g.records) (map number g.records) s n) h in
-    (ltb-true 0 s z.0, ⊎_elim (λ e. inl (eqb-true s n e)) (λ e. inr e) (or_cases (eqb s n) (path (edge book g.records) (map number g.records) s n) z.1))
+leads_found book g n s h = grind (arith, common_steps)
 
 pub reached_sound : (book : List Shape) (g : Graph) (n : ℕ) → reached book g n ≡ true → Reached book g n
 unfolding reached

@@ -1,6 +1,5 @@
 -- The laws of the graph and the worked examples, cited by the functions whose contracts they are.
-use Rattle.std.proofs.Common.{◌≡◌, ℕ, ◌<◌, ◌≤◌, Bool, ◌⊎◌, List, [], ◌∷◌, get_or, replicate, sym, refl, ◌∙◌, subst, arith}
-use Rattle.std.proofs.lemmas.List.{get_or-replicate, length-replicate}
+use Rattle.std.proofs.Common.{◌≡◌, ℕ, ◌≤◌, Bool, ◌⊎◌, List, [], ◌∷◌, refl, arith}
 use Rattle.kinds.specs.Shapes.{Shape}
 use Rattle.graph.specs.Graph.{Record, Graph, ◌∈◌, Reached, by_slot, by_field, prune, sort, select, reached, path, edge}
 use Rattle.graph.specs.Calls.{Call, Makes, make, write, follow, link, drop, refusal_in, changed, after, total, live}
@@ -12,26 +11,18 @@ use Rattle.graph.proofs.Laws.{call_down, call_sound, prune_sound}
 use Rattle.graph.proofs.Live.{call_live, total_among}
 use Rattle.graph.proofs.Order.{select_in, in_select, select_distinct}
 use Rattle.graph.proofs.Accepted.{accepted}
+use Rattle.std.proofs.lemmas.Grind.{common_steps}
 
 canonical : (book : List Shape) (g : Graph) → Sound book g → Canonical book (prune book g)
 canonical book g s =
     record { sound = prune_sound book g s; rising = prune_rising book g s.distinct; reached = λ r i. same_reached book g (prune book g) (same_prune book g) (in_prune book g r i).1 }
 
 none : (book : List Shape) (S first : ℕ) {n : ℕ} {X : Type 0} → Reached book (empty S first) n → X
-none book S first {n} (by_slot a l e z) =
-    let m : a < S = subst (λ x. a < x) (length-replicate S 0) l in
-    let d : get_or (replicate S 0) a 0 ≡ 0 = get_or-replicate S a 0 0 m in
-    let y : 0 < 0 = subst (λ x. 0 < x) (sym e ∙ d) z in
-    absurd (omega arith)
+none book S first {n} (by_slot a l e z) = grind (arith, common_steps)
 none book S first (by_field r i q s z) = absurd i
 
 opens : (book : List Shape) (S first : ℕ) → 1 ≤ first → Canonical book (empty S first)
-opens book S first l =
-    record {
-      sound = record { distinct = tt; given = λ r i. absurd i; shaped = λ r i. absurd i; whole = λ n q. none book S first q; first = λ _. l };
-      rising = tt;
-      reached = λ r i. absurd i;
-    }
+opens book S first l = grind (arith, common_steps)
 
 stays : (book : List Shape) (charges : List ℕ) (left : ℕ) (g : Graph) (c : Call) → Canonical book g → refusal_in book charges left g c ≡ 0 → Canonical book (after book g c)
 unfolding after
