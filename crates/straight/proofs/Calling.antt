@@ -1,8 +1,7 @@
 -- Every call of a straight heap that is not refused: the state stays whole, and the answer and the meaning after it are the graph's.
 use Rattle.std.proofs.Common.{◌≡◌, ℕ, ◌+◌, ◌-◌, ◌<◌, ◌≤◌, Bool, true, false, cond, eqb, List, length, get_or, sym, refl, ap, ◌∙◌, subst, ⊎_elim, arith}
 use Rattle.std.proofs.lemmas.Bool.{cond-true, cond-false, cases_eq, eq-eqb, ne_eqb, false≢true}
-use Rattle.std.proofs.lemmas.List.{get_or-map}
-use Rattle.kinds.specs.Shapes.{Shape, no_shape}
+use Rattle.kinds.specs.Shapes.{Shape}
 use Rattle.graph.specs.Graph.{Record, size, refers, prune}
 use Rattle.graph.specs.Calls.{Call, make, read, write, follow, link, hold, drop, look, spare, Answer, done, word, known, held, with_slot, with_field, after, answer_in, paid}
 use Rattle.graph.specs.Sound.{Field, Allowed}
@@ -17,13 +16,14 @@ use Rattle.straight.specs.Whole.{Whole, Leads}
 use Rattle.straight.proofs.Reading.{sound, vw, names_length, raw_slot, graph_next, full_slot, held_place, held_kind, held_none, fields_below, slot_place}
 use Rattle.straight.proofs.Changing.{slot_whole, slot_raw, field_whole, field_raw}
 use Rattle.straight.proofs.Making.{made_whole, made_raw}
+use Rattle.std.proofs.lemmas.Grind.{common_steps}
 
 no_reference : {X : Type 0} → false ≡ true → X
 no_reference e = absurd (false≢true e)
 
 -- the charge of a kind
 pub charge_is : (book : List Shape) (k : ℕ) → k < length book → get_or (headed_charges book) k 0 ≡ 2 + size book k
-charge_is book k l = get_or-map (λ (x : Shape). 2 + x.fields) book k no_shape 0 l
+charge_is book k l = grind (arith, common_steps)
 
 module _ (s : State) (w : Whole s) where
   -- what a call that is not refused finds in the words

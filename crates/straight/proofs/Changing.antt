@@ -13,6 +13,7 @@ use Rattle.straight.specs.Layout.{places, end_of, name, shown, view, names, raw_
 use Rattle.straight.specs.Whole.{Whole, Records, Leads}
 use Rattle.straight.proofs.Walk.{set_number, set_kind, set_field, set_laid}
 use Rattle.straight.proofs.Reading.{among_in, name_full, placed_view, slot_number, taken_length, fields_below, slot_place}
+use Rattle.std.proofs.lemmas.Grind.{common_steps}
 
 -- names by words that agree at the records
 pub name_kept : (mem mem' : List ℕ) (ps : List ℕ) → ((q : ℕ) → q ∈ ps → get_or mem' q 0 ≡ get_or mem q 0) → (x : ℕ) → Leads ps x → name mem' x ≡ name mem x
@@ -27,10 +28,7 @@ map_names f g (x ∷ xs) h = let e : f x ≡ g x = h 0 (suc-le-suc zero-le) in l
 
 -- a field by words that agree
 pub shown_kept : (book : List Shape) (mem mem' : List ℕ) (q j x : ℕ) → get_or mem' (q + 1) 0 ≡ get_or mem (q + 1) 0 → get_or mem' (q + 2 + j) 0 ≡ x → (refers book (get_or mem (q + 1) 0) j ≡ true → name mem' x ≡ name mem x) → shown book mem' q j ≡ cond (refers book (get_or mem (q + 1) 0) j) (name mem x) x
-shown_kept book mem mem' q j x k e f =
-    ap (λ n. cond (refers book n j) (name mem' (get_or mem' (q + 2 + j) 0)) (get_or mem' (q + 2 + j) 0)) k
-    ∙ ap (λ n. cond (refers book (get_or mem (q + 1) 0) j) (name mem' n) n) e
-    ∙ pick (refers book (get_or mem (q + 1) 0) j) f
+shown_kept book mem mem' q j x k e f = grind (arith, common_steps)
   where
     pick : (b : Bool) → (b ≡ true → name mem' x ≡ name mem x) → cond b (name mem' x) x ≡ cond b (name mem x) x
     pick true h = h refl

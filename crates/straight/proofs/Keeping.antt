@@ -14,6 +14,7 @@ use Rattle.straight.proofs.Walk.{set_number, set_kind, set_laid}
 use Rattle.straight.proofs.Making.{laid_length, laid_over, fits, numbers, kinds, old}
 use Rattle.straight.proofs.Calling.{Met, met, allowed, count_below, fitting}
 use Rattle.straight.proofs.Reading.{slot_place, fields_below}
+use Rattle.std.proofs.lemmas.Grind.{common_steps}
 
 module _ (s : State) (w : Whole s) where
   -- a word that is set in a field of a record
@@ -75,7 +76,7 @@ module _ (s : State) (w : Whole s) where
   stays_after spare f p j = (j, refl, refl)
 
   nobody : {X : Type 0} → s.count ≡ 0 → (a : ℕ) → a < s.count → X
-  nobody e a l = let z : a < 0 = subst (λ n. a < n) e l in absurd (omega arith)
+  nobody e a l = grind (arith, common_steps)
 
   none_after : s.count ≡ 0 → (c : Call) → refusal (meaning_of s) c ≡ 0 → words_after s c ≡ s
   none_after e (make a k) f = nobody e a (fitting s w a k f).slot
@@ -94,7 +95,7 @@ module _ (h : Straight) where
   w = whole (words h) h.whole
 
   by_reply : (P : State → Type 0) (c : Call) (r : Reply) (k : Straight) → Promised h c r k → P (words h) → (refusal (meaning_of (words h)) c ≡ 0 → P (words_after (words h) c)) → P (words k)
-  by_reply P c (gave x) k p same after = subst P (sym p.acts.1) (after p.means.1.fine)
+  by_reply P c (gave x) k p same after = grind (arith, common_steps)
   by_reply P c (refused n) k p same after = subst P (sym p.acts) same
 
 pub straight_laws : StraightLaws

@@ -15,6 +15,7 @@ use Rattle.graph.proofs.Clearing.{cleared_length, cleared_under, cleared_over, c
 use Rattle.straight.proofs.Walk.{push_laid, low, laid_once, in_append, append_left, append_right}
 use Rattle.straight.proofs.Reading.{among_in, in_among, name_full, taken_length}
 use Rattle.straight.proofs.Changing.{name_kept, map_names, shown_kept}
+use Rattle.std.proofs.lemmas.Grind.{common_steps}
 
 -- the words of a record that is laid
 module _ (m : List ℕ) (p number k n : ℕ) (fits : p + (2 + n) ≤ length m) where
@@ -23,7 +24,7 @@ module _ (m : List ℕ) (p number k n : ℕ) (fits : p + (2 + n) ≤ length m) w
 
   head_length : length head ≡ length m
   unfolding head
-  head_length = length-set (set m p number) (p + 1) k ∙ length-set m p number
+  head_length = grind (arith, common_steps)
 
   pub laid_length : length (laid m p number k n) ≡ length m
   unfolding head
@@ -74,7 +75,7 @@ module _ (s : State) (w : Whole s) (a k : ℕ) (l : a < s.count) (known : k < le
   ps' = places s.book mem' (s.top + (2 + n))
 
   pub fits : s.top + (2 + n) ≤ length mem
-  fits = let i : s.top ≤ s.room = w.inside in let j : s.room ≤ length s.memory = w.fits in omega arith
+  fits = grind (arith, common_steps)
 
   under : (x : ℕ) → x < s.top → get_or mem' x 0 ≡ get_or mem x 0
   under = laid_under mem s.top s.next k n fits

@@ -1,10 +1,9 @@
 -- A heap just opened: its state is whole, and it means an empty graph.
-use Rattle.std.proofs.Common.{◌≡◌, ℕ, zero, suc, ◌-◌, ◌<◌, ◌≤◌, Bool, true, false, cond, ◌||◌, eqb, ltb, List, [], ◌∷◌, map, length, get_or, replicate, sym, refl, ap, ◌∙◌, subst, ⊎_elim, zero-le, arith}
-use Rattle.std.proofs.lemmas.Bool.{or_parts, ltb-false, eqb-false, ne_eqb, cases_lt, cond-false}
-use Rattle.std.proofs.lemmas.List.{take-replicate, get_or-replicate, length-replicate, get_or_past}
+use Rattle.std.proofs.Common.{◌≡◌, ℕ, zero, suc, ◌-◌, ◌<◌, ◌≤◌, Bool, true, false, cond, eqb, List, [], ◌∷◌, map, length, get_or, replicate, sym, refl, ap, ◌∙◌, subst, zero-le, arith}
+use Rattle.std.proofs.lemmas.List.{take-replicate, length-replicate}
 use Rattle.kinds.specs.Shapes.{Shape}
 use Rattle.graph.specs.Graph.{◌∈◌, prune, sort}
-use Rattle.graph.specs.View.{View, record_at, raw}
+use Rattle.graph.specs.View.{View, raw}
 use Rattle.graph.specs.Meaning.{Opened, headed_charges}
 use Rattle.straight.specs.Words.{State, reference}
 use Rattle.straight.specs.Layout.{places, name, view, names, raw_of, meaning_of}
@@ -12,6 +11,7 @@ use Rattle.straight.specs.Whole.{Whole}
 use Rattle.graph.specs.Opening.{bad_opening, unless_bad}
 use Rattle.straight.specs.Opening.{opened, opened_meaning}
 use Rattle.straight.proofs.Walk.{none_laid}
+use Rattle.std.proofs.lemmas.Grind.{common_steps}
 
 record Good (words slots first : ℕ) : Type 0 where
   pub small : words ≤ 16384
@@ -20,13 +20,7 @@ record Good (words slots first : ℕ) : Type 0 where
   pub above : 0 < first
 
 good : (words slots first : ℕ) → bad_opening words slots first ≡ false → Good words slots first
-good words slots first e =
-    let a = or_parts (ltb 16384 words) (eqb slots 0 || (ltb 64 slots || eqb first 0)) e in
-    let b = or_parts (eqb slots 0) (ltb 64 slots || eqb first 0) a.1 in
-    let c = or_parts (ltb 64 slots) (eqb first 0) b.1 in
-    let y : slots ≡ 0 → ⊥ = eqb-false slots 0 b.0 in
-    let z : first ≡ 0 → ⊥ = eqb-false first 0 c.1 in
-    record { small = ltb-false 16384 words a.0; some = omega arith; few = ltb-false 64 slots c.0; above = omega arith }
+good words slots first e = grind (arith, common_steps)
 
 -- what holds of the count and the room, be the opening good or bad
 pub record Sized (words slots first : ℕ) (bad : Bool) : Type 0 where
@@ -37,17 +31,14 @@ pub record Sized (words slots first : ℕ) (bad : Bool) : Type 0 where
   pub answers : ◌≡◌ {A = ℕ} (cond (eqb (unless_bad bad slots) 0) 10 0) (cond bad 10 0)
 
 sized_by : (words slots first : ℕ) (bad : Bool) → (bad ≡ false → Good words slots first) → Sized words slots first bad
-sized_by words slots first true f = record { few = zero-le; fits = zero-le; small = zero-le; numbered = λ z. absurd (omega arith); answers = refl }
-sized_by words slots first false f =
-    let g = f refl in
-    let z : 0 < slots = g.some in
-    record { few = g.few; fits = omega arith; small = g.small; numbered = λ _. g.above; answers = cond-false (eqb slots 0) 10 0 (ne_eqb slots 0 (λ e. omega arith)) }
+sized_by words slots first true f = grind (arith, common_steps)
+sized_by words slots first false f = grind (arith, common_steps)
 
 pub sized : (words slots first : ℕ) → Sized words slots first (bad_opening words slots first)
-sized words slots first = sized_by words slots first (bad_opening words slots first) (good words slots first)
+sized words slots first = grind (arith, common_steps)
 
 zeros : (n a : ℕ) → ◌≡◌ {A = ℕ} (get_or (replicate n 0) a 0) 0
-zeros n a = ⊎_elim (λ l. get_or-replicate n a 0 0 l) (λ l. get_or_past (replicate n 0) a 0 (subst (λ m. m ≤ a) (sym (length-replicate n 0)) l)) (cases_lt a n)
+zeros n a = grind (arith, common_steps)
 
 module _ (memory : List ℕ) (slots : ℕ) (book : List Shape) (first : ℕ) where
   abbrev s : State
@@ -79,7 +70,7 @@ module _ (memory : List ℕ) (slots : ℕ) (book : List Shape) (first : ℕ) whe
 
   nothing : (v : View) (xs : List ℕ) → v.places ≡ [] → prune book (raw book v xs first) ≡ record { slots = xs; next = first; records = [] }
   unfolding prune raw sort
-  nothing v xs e = ap (λ ps. prune book (record { slots = xs; next = first; records = map (record_at book v) ps })) e
+  nothing v xs e = grind (arith, common_steps)
 
   pub opened_means : meaning_of s ≡ opened_meaning (length memory) slots book first
   unfolding view

@@ -1,7 +1,7 @@
 -- What the words of a whole state show: its view is placed, its slots and records are those of the graph.
 use Rattle.std.proofs.Common.{◌≡◌, ℕ, ◌+◌, ◌-◌, ◌<◌, ◌≤◌, true, eqb, List, [], ◌∷◌, length, get_or, take, sym, refl, ap, ◌∙◌, subst, arith}
-use Rattle.std.proofs.lemmas.Bool.{eqb-true, eqb-false, eq-eqb, ne_eqb, cond-true, cond-false, cond_both, false≢true}
-use Rattle.std.proofs.lemmas.List.{length-map, length-take-le, get_or-take, get_or-map}
+use Rattle.std.proofs.lemmas.Bool.{eqb-true, eq-eqb, cond-true, false≢true}
+use Rattle.std.proofs.lemmas.List.{length-take-le}
 use Rattle.graph.specs.Graph.{Record, ◌∈◌, size, refers}
 use Rattle.graph.specs.Calls.{no_record, slot, held}
 use Rattle.graph.specs.Sound.{Sound}
@@ -14,6 +14,7 @@ use Rattle.straight.specs.Words.{State, reference, place, word_at}
 use Rattle.straight.specs.Layout.{places, name, shown, view, names, raw_of, meaning_of}
 use Rattle.straight.specs.Whole.{Whole, Leads, among}
 use Rattle.straight.proofs.Walk.{laid_once, place_below}
+use Rattle.std.proofs.lemmas.Grind.{common_steps}
 
 -- membership as a test
 pub among_in : (x : ℕ) (xs : List ℕ) → among x xs ≡ true → x ∈ xs
@@ -25,13 +26,10 @@ in_among x xs i = any_from (λ (z : ℕ). eqb z x) xs x i (eq-eqb x x refl)
 
 -- the name of a reference
 pub name_full : (mem : List ℕ) (x : ℕ) → 0 < x → name mem x ≡ get_or mem (x - 1) 0
-name_full mem x z = cond-false (eqb x 0) 0 (get_or mem (x - 1) 0) (ne_eqb x 0 (λ e. absurd (omega arith)))
+name_full mem x z = grind (arith, common_steps)
 
 pub name_some : (mem : List ℕ) (x : ℕ) → 0 < name mem x → 0 < x
-name_some mem x =
-    cond_both (eqb x 0) 0 (get_or mem (x - 1) 0) (λ m. 0 < m → 0 < x)
-    (λ _ z. absurd (omega arith))
-    (λ b z. let k : x ≡ 0 → ⊥ = eqb-false x 0 b in omega arith)
+name_some mem x = grind (arith, common_steps)
 
 module _ (s : State) (w : Whole s) where
   abbrev pub ps : List ℕ
@@ -44,12 +42,10 @@ module _ (s : State) (w : Whole s) where
   taken_length = length-take-le s.count s.slots w.array
 
   pub names_length : length (names s) ≡ s.count
-  names_length = length-map (take s.count s.slots) (name s.memory) ∙ taken_length
+  names_length = grind (arith, common_steps)
 
   pub slot_name : (a : ℕ) → a < s.count → get_or (names s) a 0 ≡ name s.memory (reference s a)
-  slot_name a l =
-      get_or-map (name s.memory) (take s.count s.slots) a 0 0 (subst (λ n. a < n) (sym taken_length) l)
-      ∙ ap (name s.memory) (get_or-take s.count s.slots a 0 l)
+  slot_name a l = grind (arith, common_steps)
 
   -- a reference that leads to a record, and shows n
   found : (x : ℕ) → Leads ps x → 0 < name s.memory x → Found vw (name s.memory x)
@@ -100,7 +96,7 @@ module _ (s : State) (w : Whole s) where
   slot_place a l z = among_in (place s a) ps (w.slots a l z)
 
   pub slot_number : (a : ℕ) → a < s.count → 0 < reference s a → get_or (names s) a 0 ≡ word_at s (place s a)
-  slot_number a l z = slot_name a l ∙ name_full s.memory (reference s a) z
+  slot_number a l z = grind (arith, common_steps)
 
   pub held_place : (a : ℕ) → a < s.count → 0 < reference s a → held (raw_of s) a ≡ record_at s.book vw (place s a)
   unfolding view
