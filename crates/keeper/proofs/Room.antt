@@ -72,34 +72,10 @@ was_open s t w e h = omega (arith, no_rise s t w e)
 rest_back : (s t : State) (w : ℕ) → Effect s w 0 false t → t.heap.due ≡ 0 → s.heap.due ≡ 0
 rest_back s t w e h = grind arith
 
--- A call that made no word and no step.
-free_step : (z : Terms) (s t : State) → Effect s 0 0 false t → t.rate ≡ s.rate → t.asks ≡ s.asks → t.steps ≡ s.steps → t.words ≡ s.words → t.bill ≡ s.bill → Inv z s → Inv z t
-free_step z s t e r a p w b i =
-    let d = no_rise s t 0 e in
-    record {
-      capacity = e.capacity ∙ i.capacity;
-      fixed = e.fixed ∙ i.fixed;
-      rate = r ∙ i.rate;
-      enough = same_asks z.r s.asks t.asks a i.enough;
-      charged = same_charges z.M s.heap t.heap e.book e.charges i.charged;
-      used = omega arith;
-      resting = λ h. omega (arith, i.resting (rest_back s t 0 e h));
-      run = omega arith;
-      kept = λ h. let o = was_open s t 0 e h in omega (arith, i.kept o, e.going o);
-      paying = i.paying;
-      words = let x = ap (λ (q : Option ℕ). slack q z.M) b in omega arith;
-      paid = omega arith;
-    }
-
--- A make that is accepted.
-made_step : (z : Terms) (s t : State) (w n : ℕ) → Effect s w 0 false t → w ≤ z.M → t.rate ≡ s.rate → t.asks ≡ s.asks → t.steps ≡ s.steps → t.words ≡ min (s.words + w) cap → s.bill ≡ None → t.bill ≡ Some n → Inv z s → Inv z t
-made_step z s t w n e f r a p c b b' i =
+-- A call that made w words and no step.
+call_step : (z : Terms) (s t : State) (w : ℕ) → Effect s w 0 false t → t.rate ≡ s.rate → t.asks ≡ s.asks → t.steps ≡ s.steps → t.words ≡ s.words + w → (i : Inv z s) → t.words ≤ i.paying + slack t.bill z.M → Inv z t
+call_step z s t w e r a p c i b =
     let d = no_rise s t w e in
-    let o = ap (λ (q : Option ℕ). slack q z.M) b in
-    let o' = ap (λ (q : Option ℕ). slack q z.M) b' in
-    let g = fewer z s i in
-    let q = few z s i in
-    let c' : t.words ≡ s.words + w = omega (arith, z.room, z.capacity) in
     record {
       capacity = e.capacity ∙ i.capacity;
       fixed = e.fixed ∙ i.fixed;
@@ -111,9 +87,23 @@ made_step z s t w n e f r a p c b b' i =
       run = omega arith;
       kept = λ h. let u = was_open s t w e h in omega (arith, i.kept u, e.going u);
       paying = i.paying;
-      words = omega arith;
+      words = b;
       paid = omega arith;
     }
+
+-- One that made no word.
+free_step : (z : Terms) (s t : State) → Effect s 0 0 false t → t.rate ≡ s.rate → t.asks ≡ s.asks → t.steps ≡ s.steps → t.words ≡ s.words → t.bill ≡ s.bill → Inv z s → Inv z t
+free_step z s t e r a p w b i =
+    let x = ap (λ (q : Option ℕ). slack q z.M) b in
+    call_step z s t 0 e r a p (omega arith) i (omega arith)
+
+-- A make that is accepted.
+made_step : (z : Terms) (s t : State) (w n : ℕ) → Effect s w 0 false t → w ≤ z.M → t.rate ≡ s.rate → t.asks ≡ s.asks → t.steps ≡ s.steps → t.words ≡ min (s.words + w) cap → s.bill ≡ None → t.bill ≡ Some n → Inv z s → Inv z t
+made_step z s t w n e f r a p c b b' i =
+    let o = ap (λ (q : Option ℕ). slack q z.M) b in
+    let o' = ap (λ (q : Option ℕ). slack q z.M) b' in
+    let g = fewer z s i in
+    call_step z s t w e r a p (omega (arith, z.room, z.capacity)) i (omega arith)
 
 -- Steps.
 ran : (z : Terms) (s t : State) (k : ℕ) → Effect s 0 k false t → live_words s.heap ≤ z.L → Inv z s → s.steps + k + t.heap.due ≤ z.F + z.L

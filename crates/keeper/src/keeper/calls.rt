@@ -121,6 +121,7 @@ impl<H: Collected, P: Pacing> Keeper<H, P> {
         ensures event { Event (state H.Heap P.Pacing self.old) (OfHeap (Look slot)) (told (as_known result)) (state H.Heap P.Pacing self.new) }
         ensures acts { H.Heap.acts self.old.heap (Look slot) (as_known result) self.new.heap }
     {
+        // Kept: a pair, 0 and 0 for an empty slot, is a rule of the project: each heap's `look` answers so.
         self.heap.look(slot)
     }
 
@@ -138,6 +139,7 @@ impl<H: Collected, P: Pacing> Keeper<H, P> {
         ensures event { Event (state H.Heap P.Pacing self.old) (OfIdle count) (idled result.0 result.1) (state H.Heap P.Pacing self.new) }
         ensures acts { H.Collected.idles self.old.heap count result.0 result.1 self.new.heap }
     {
+        // Kept: a pair of the steps and whether a cycle ended is a rule of the project: each heap's `idle` answers so.
         let (made, ended) = self.heap.idle(count);
         if ended {
             self.steps = 0;
