@@ -1,10 +1,10 @@
 -- What a call that is not refused finds.
-use Rattle.std.proofs.Common.{◌≡◌, ℕ, suc, ◌<◌, ◌≤◌, Bool, true, false, cond, not, List, length, get_or, refl, arith}
-use Rattle.std.proofs.lemmas.Bool.{leb-false, not-false}
+use Rattle.std.proofs.Common.{◌≡◌, ℕ, suc, ◌≤◌, Bool, true, false, cond, List, length, get_or, refl, arith}
+use Rattle.std.proofs.lemmas.Bool.{leb-false}
 use Rattle.kinds.specs.Shapes.{Shape}
 use Rattle.graph.specs.Graph.{Graph}
-use Rattle.graph.specs.Calls.{Call, make, read, write, follow, link, hold, drop, look, spare, no_slot, field_refusal, make_refusal, refusal_in}
-use Rattle.graph.specs.Sound.{Slot, Field, Allowed}
+use Rattle.graph.specs.Calls.{Call, make, read, write, follow, link, hold, drop, look, spare, no_slot, refusal_in}
+use Rattle.graph.specs.Sound.{Slot, Allowed}
 use Rattle.std.proofs.lemmas.Grind.{common_steps}
 
 -- the first test that holds decides
@@ -12,18 +12,8 @@ pass : (b : Bool) (n rest : ℕ) → cond b (suc n) rest ≡ 0 → (b ≡ false)
 pass true n rest e = absurd (omega arith)
 pass false n rest e = (refl, e)
 
-sort_from : (t b : Bool) → cond t (not b) b ≡ false → b ≡ t
-sort_from true b e = not-false b e
-sort_from false b e = e
-
-field_from : (book : List Shape) (g : Graph) (a i : ℕ) (t : Bool) → field_refusal book g a i t ≡ 0 → Field book g a i t
-field_from book g a i t h = grind (arith, common_steps)
-
 slot_from : (g : Graph) (a : ℕ) → no_slot g a ≡ false → Slot g a
 slot_from g a h = leb-false (length g.slots) a h
-
-make_from : (book : List Shape) (cs : List ℕ) (left : ℕ) (g : Graph) (k : ℕ) → make_refusal book cs left g k ≡ 0 → (k < length book) × (get_or cs k 0 ≤ left) × (g.next ≤ 4294967295)
-make_from book cs left g k h = grind (arith, common_steps)
 
 module _ (book : List Shape) (cs : List ℕ) (left : ℕ) (g : Graph) where
   -- A make that is not refused has its charge and a number.

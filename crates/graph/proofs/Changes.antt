@@ -86,9 +86,6 @@ put_kind n i v r = grind (arith, common_steps)
 pub put_length : (n i v : ℕ) (r : Record) → length (put n i v r).fields ≡ length r.fields
 put_length n i v r = grind (arith, common_steps)
 
-set_names : (book : List Shape) (r : Record) (i v m : ℕ) → Names book (record { number = r.number; kind = r.kind; fields = set r.fields i v }) m → Names book r m ⊎ ((m ≡ v) × (refers book r.kind i ≡ true))
-set_names book r i v m s = grind (arith, common_steps)
-
 pub put_names : (book : List Shape) (n i v m : ℕ) (r : Record) → Names book (put n i v r) m → Names book r m ⊎ ((r.number ≡ n) × (m ≡ v) × (refers book r.kind i ≡ true))
 put_names book n i v m r = grind (arith, common_steps)
 
