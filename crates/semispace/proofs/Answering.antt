@@ -35,13 +35,7 @@ module _ (s : State) (h : ∥ Whole s ∥₁) where
   pub vacant_is : (a : ℕ) → a < length (meaning_of s).graph.slots → eqb (get_or s.slots a 0) 0 ≡ eqb (slot (meaning_of s).graph a) 0
   vacant_is a l =
       let k = counted a l in
-      ⊎_elim
-      (λ e. eq-eqb (get_or s.slots a 0) 0 e ∙ sym (eq-eqb (slot (meaning_of s).graph a) 0 (graph_slot s w a ∙ slot_empty s w a k e)))
-      (λ ne.
-      let z : 0 < slot (raw_of s) a = slot_full s w a k (omega arith) in
-      let y : 0 < slot (meaning_of s).graph a = subst (λ n. 0 < n) (sym (graph_slot s w a)) z in
-      ne_eqb (get_or s.slots a 0) 0 ne ∙ sym (ne_eqb (slot (meaning_of s).graph a) 0 (λ e. omega arith)))
-      (cases_eq (get_or s.slots a 0) 0)
+      search (rules, arith, eq-eqb, graph_slot, w, slot_empty, slot_full, ne_eqb)
 
   full_of : (a : ℕ) → a < length (meaning_of s).graph.slots → 0 < slot (meaning_of s).graph a → 0 < get_or s.slots a 0
   full_of a l z = full_slot s w a (counted a l) (subst (λ n. 0 < n) (graph_slot s w a) z)

@@ -1,5 +1,5 @@
 -- What the code of calls asks of the words, from the invariant.
-use Rattle.std.proofs.Common.{◌≡◌, ℕ, ◌+◌, ◌-◌, ◌<◌, Bool, true, false, ◌||◌, eqb, leb, List, get_or, sym, ap, ◌∙◌, subst, ap₂, inl, inr, arith}
+use Rattle.std.proofs.Common.{rules, ◌≡◌, ℕ, ◌+◌, ◌-◌, ◌<◌, Bool, true, false, ◌||◌, eqb, leb, List, get_or, sym, ap, ◌∙◌, subst, ap₂, inl, inr, arith}
 use Rattle.std.proofs.lemmas.Bool.{or_left, or_right, eq-eqb, lt-ltb, le-leb, true≢false}
 use Rattle.kinds.specs.Shapes.{Shape}
 use Rattle.graph.specs.Graph.{size}
@@ -82,11 +82,7 @@ module _ (s : State) (S : Sound s) (K : Known s) where
   pub numbered_at : (a : ℕ) → a < s.count → 0 < get_or s.slots a 0 → Numbered s (held_at s a)
   numbered_at a l z =
       let k = in_all (held_at s a) (slot_leads s S K a l z) in
-      record {
-        inside = inside (held_at s a) k;
-        some = λ e d. head_some (held_at s a) (new_in (held_at s a) k e);
-        old = λ e d. unopened_old (held_at s a) (new_in (held_at s a) k e) d;
-      }
+      search (rules, arith, inside, head_some, new_in, unopened_old)
 
   pub found_at : (a i : ℕ) (l : a < s.count) (z : 0 < get_or s.slots a 0) → i < fields_at s (held_at s a) → Found s (held_at s a) i
   found_at a i l z b =
