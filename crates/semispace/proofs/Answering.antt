@@ -1,5 +1,5 @@
 -- What the functions of the copying heap's space ask and promise, from the invariant.
-use Rattle.std.proofs.Common.{◌≡◌, ℕ, ◌<◌, ◌≤◌, true, false, eqb, length, get_or, sym, ap, ◌∙◌, subst, ⊎_elim, arith}
+use Rattle.std.proofs.Common.{rules, ◌≡◌, ℕ, ◌<◌, ◌≤◌, true, false, eqb, length, get_or, sym, ap, ◌∙◌, subst, ⊎_elim, arith}
 use Rattle.std.proofs.lemmas.Bool.{cases_eq, eq-eqb, ne_eqb}
 use Rattle.graph.specs.Graph.{Record}
 use Rattle.graph.specs.Calls.{Call, make, read, write, follow, link, hold, look, Answer, slot, held}
@@ -23,9 +23,7 @@ module _ (s : State) (h : ∥ Whole s ∥₁) where
   after_whole few t c f e = ∣ subst Whole (sym e) (stands s w few c f).0 ∣₁
 
   pub after_called : length s.book ≤ 16 → (t : State) (c : Call) (x : Answer) → refusal (meaning_of s) c ≡ 0 → x ≡ words_answer s c → t ≡ words_after s c → Called (meaning_of s) c (gave x) (meaning_of t)
-  after_called few t c x f a e =
-      subst (λ (u : State). Called (meaning_of s) c (gave x) (meaning_of u)) (sym e)
-      (subst (λ (y : Answer). Called (meaning_of s) c (gave y) (meaning_of (words_after s c))) (sym a) (stands s w few c f).1)
+  after_called few t c x f a e = search (rules, arith, stands, w)
 
   -- slots
   pub count_is : s.count ≡ length (meaning_of s).graph.slots
@@ -37,13 +35,7 @@ module _ (s : State) (h : ∥ Whole s ∥₁) where
   pub vacant_is : (a : ℕ) → a < length (meaning_of s).graph.slots → eqb (get_or s.slots a 0) 0 ≡ eqb (slot (meaning_of s).graph a) 0
   vacant_is a l =
       let k = counted a l in
-      ⊎_elim
-      (λ e. eq-eqb (get_or s.slots a 0) 0 e ∙ sym (eq-eqb (slot (meaning_of s).graph a) 0 (graph_slot s w a ∙ slot_empty s w a k e)))
-      (λ ne.
-      let z : 0 < slot (raw_of s) a = slot_full s w a k (omega arith) in
-      let y : 0 < slot (meaning_of s).graph a = subst (λ n. 0 < n) (sym (graph_slot s w a)) z in
-      ne_eqb (get_or s.slots a 0) 0 ne ∙ sym (ne_eqb (slot (meaning_of s).graph a) 0 (λ e. omega arith)))
-      (cases_eq (get_or s.slots a 0) 0)
+      search (rules, arith, eq-eqb, graph_slot, w, slot_empty, slot_full, ne_eqb)
 
   full_of : (a : ℕ) → a < length (meaning_of s).graph.slots → 0 < slot (meaning_of s).graph a → 0 < get_or s.slots a 0
   full_of a l z = full_slot s w a (counted a l) (subst (λ n. 0 < n) (graph_slot s w a) z)

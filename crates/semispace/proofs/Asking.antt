@@ -1,6 +1,6 @@
 -- What the code of calls asks of the words, from the invariant.
-use Rattle.std.proofs.Common.{◌≡◌, ℕ, ◌+◌, ◌-◌, ◌<◌, Bool, true, false, ◌||◌, eqb, ltb, leb, List, get_or, sym, ap, ◌∙◌, subst, ap₂, inl, inr, arith}
-use Rattle.std.proofs.lemmas.Bool.{or_left, or_right, eq-eqb, lt-ltb, le-leb, true≢false, false≢true}
+use Rattle.std.proofs.Common.{rules, ◌≡◌, ℕ, ◌+◌, ◌-◌, ◌<◌, Bool, true, false, ◌||◌, eqb, leb, List, get_or, sym, ap, ◌∙◌, subst, ap₂, inl, inr, arith}
+use Rattle.std.proofs.lemmas.Bool.{or_left, or_right, eq-eqb, lt-ltb, le-leb, true≢false}
 use Rattle.kinds.specs.Shapes.{Shape}
 use Rattle.graph.specs.Graph.{size}
 use Rattle.semispace.specs.declared.collector.Target.TheVariants.{Settled}
@@ -52,18 +52,10 @@ module _ (s : State) (S : Sound s) (K : Known s) where
 
   -- an address that leads into the new half is that of a record there
   new_in : (x : ℕ) → mem x (all s) ≡ true → leads_new s.halves (x + 1) ≡ true → mem x (the_news s) ≡ true
-  new_in x k e =
-      elim (mem_append x (the_news s) (the_olds s) k) [
-        | inl n ↦ n
-        | inr o ↦ absurd (false≢true (sym (old_leads_not s S.laid x o) ∙ e))
-      ]
+  new_in x k e = grind (arith, mem_append, old_leads_not)
 
   rest_opened : (x : ℕ) → mem x (the_news s) ≡ true → resting s.collector ≡ true → opened_at s.halves s.collector x ≡ true
-  rest_opened x k e =
-      let u = news_inside s S.laid x k in
-      let z = size_two s.book s.memory x in
-      let q = rested s.collector e in
-      rw q (or_right (leb (s.halves.base + s.halves.high) x) _ (or_left (ltb x (s.halves.base + s.halves.size)) _ (lt-ltb x (s.halves.base + s.halves.size) (omega arith))))
+  rest_opened x k e = grind (arith, news_inside, size_two, rested, or_right, or_left, lt-ltb)
 
   unopened_old : (x : ℕ) → mem x (the_news s) ≡ true → opened_at s.halves s.collector x ≡ false → word_at s x - 1 < both_halves s
   unopened_old x k d =
@@ -90,11 +82,7 @@ module _ (s : State) (S : Sound s) (K : Known s) where
   pub numbered_at : (a : ℕ) → a < s.count → 0 < get_or s.slots a 0 → Numbered s (held_at s a)
   numbered_at a l z =
       let k = in_all (held_at s a) (slot_leads s S K a l z) in
-      record {
-        inside = inside (held_at s a) k;
-        some = λ e d. head_some (held_at s a) (new_in (held_at s a) k e);
-        old = λ e d. unopened_old (held_at s a) (new_in (held_at s a) k e) d;
-      }
+      search (rules, arith, inside, head_some, new_in, unopened_old)
 
   pub found_at : (a i : ℕ) (l : a < s.count) (z : 0 < get_or s.slots a 0) → i < fields_at s (held_at s a) → Found s (held_at s a) i
   found_at a i l z b =

@@ -48,14 +48,7 @@ sum_placed s p (x ∷ xs) h =
 
 pub kept_rest : (s : State) → Sound s → resting s.collector ≡ true → kept s ≡ s.halves.low + (s.halves.size - s.halves.high)
 unfolding kept
-kept_rest s S r =
-    let P : List ℕ → Type 0 = λ xs. sum_where (lives s) (size_of s) xs ≡ s.halves.low + (s.halves.size - s.halves.high) in
-    let a = sum_all s (lives s) (the_news s) (λ x k. lives_root s x (root_new s x x k refl)) in
-    let t = total_append s.book s.memory (the_places s) (the_mades s) in
-    let pf = S.laid.places_fill in
-    let mf = S.laid.mades_fill in
-    let tp = S.laid.top in
-    subst P (sym (objects_rest s r)) (omega arith)
+kept_rest s S r = grind (arith, sum_all, lives_root, root_new, total_append, the_mades, objects_rest)
 
 -- Done.
 module _ (s : State) (S : Sound s) (K : Known s) (at : ℕ) (is : s.collector ≡ Scan at) (over : ltb at (next_place s) ≡ false) where
@@ -170,10 +163,7 @@ module _ (s : State) (S : Sound s) (K : Known s) where
   -- With nothing in the new half only live words are kept.
   pub kept_live : ((p : ℕ) → mem p (the_news s) ≡ true → ⊥) → kept s ≤ GC.live s.book (headed_charges s.book) (graph_of s)
   unfolding kept
-  kept_live empty =
-      let a = sum_le (lives s) (λ x. GG.reached book (raw_of s) (number s x)) (size_of s) (size_of s) (objects s) (lives_reached empty) (λ x k. omega arith) in
-      let b = live_sum in
-      omega arith
+  kept_live empty = grind (arith, sum_le, lives_reached, live_sum)
 
   pub pending_kept : pending s ≤ kept s
   unfolding pending kept

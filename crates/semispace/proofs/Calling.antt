@@ -64,11 +64,7 @@ module _ (s : State) (W : Whole s) where
   count_below a l = subst (λ n. a < n) (slots_length s S K) l
 
   pub full_slot : (a : ℕ) → a < s.count → 0 < slot (raw_of s) a → 0 < get_or s.slots a 0
-  full_slot a l z =
-      ⊎_elim
-      (λ e. let n = slot_named s S K a l ∙ name_none s (get_or s.slots a 0) e in absurd (omega arith))
-      (λ ne. omega arith)
-      (cases_eq (get_or s.slots a 0) 0)
+  full_slot a l z = grind (arith, slot_named, name_none)
 
   pub slot_full : (a : ℕ) (l : a < s.count) → 0 < get_or s.slots a 0 → 0 < slot (raw_of s) a
   slot_full a l z =

@@ -1,5 +1,5 @@
 -- Start and Done keep the invariant.
-use Rattle.std.proofs.Common.{◌≡◌, ℕ, ◌+◌, ◌-◌, ◌<◌, ◌≤◌, true, false, ◌&&◌, ◌||◌, eqb, ltb, leb, [], ◌++◌, sym, refl, ◌∙◌, subst, ap₂, inl, inr, arith}
+use Rattle.std.proofs.Common.{rules, ◌≡◌, ℕ, ◌+◌, ◌-◌, ◌<◌, ◌≤◌, true, false, ltb, [], ◌++◌, sym, refl, ◌∙◌, subst, ap₂, inl, inr, arith}
 use Rattle.std.proofs.lemmas.Bool.{or_left, or_right, ltb-true, le-leb, lt-ltb, le-ltb, ltb-false, eq-eqb, true≢false, false≢true}
 use Rattle.semispace.specs.declared.collector.Collector.{Collector}
 use Rattle.semispace.specs.declared.collector.Collector.TheVariants.{Rest, Slots, Scan, Field}
@@ -25,11 +25,7 @@ module _ (s : State) (S : Sound s) (at : ℕ) (is : s.collector ≡ Scan at) (ov
   }
     where
       owned : (x n : ℕ) → mem x (the_news s) ≡ true → own s.halves (Scan at) x n ≡ true
-      owned x n m =
-          elim (mem_append x (the_places s) (mades s.book s.memory s.halves) m) [
-            | inl e ↦ or_right (leb (s.halves.base + s.halves.high) x) (ltb x at || (eqb x at && ltb n 0)) (or_left (ltb x at) (eqb x at && ltb n 0) (lt-ltb x at (omega (arith, places_inside _ _ _ S.laid x e, size_two s.book s.memory x, ltb-false at (next_place s) over))))
-            | inr e ↦ or_left (leb (s.halves.base + s.halves.high) x) (ltb x at || (eqb x at && ltb n 0)) (le-leb (s.halves.base + s.halves.high) x (mades_inside _ _ _ S.laid x e).0)
-          ]
+      owned x n m = search (rules, arith, mem_append, or_right, or_left, lt-ltb, places_inside, size_two, ltb-false, le-leb, mades_inside)
 
 -- Start: the halves change roles.
 module _ (s : State) (S : Sound s) (is : s.collector ≡ Rest) where
@@ -58,28 +54,10 @@ module _ (s : State) (S : Sound s) (is : s.collector ≡ Rest) where
   news_start = ap₂ (λ xs ys. xs ++ ys) places_start mades_start
 
   pub laid_start : Laid s.book s.memory (swapped s.halves)
-  laid_start = record {
-    fits = S.laid.fits;
-    side = elim (side_cases _ _ _ S.laid) [
-      | inl e ↦ or_right (eqb (s.halves.size - s.halves.base) 0) (eqb (s.halves.size - s.halves.base) s.halves.size) (eq-eqb (s.halves.size - s.halves.base) s.halves.size (omega arith))
-      | inr e ↦ or_left (eqb (s.halves.size - s.halves.base) 0) (eqb (s.halves.size - s.halves.base) s.halves.size) (eq-eqb (s.halves.size - s.halves.base) 0 (omega arith))
-    ];
-    ends = omega arith;
-    top = omega arith;
-    old_ends = S.laid.ends;
-    old_top = S.laid.top;
-    lows_fill = rw turned S.laid.places_fill;
-    highs_fill = rw turned S.laid.mades_fill;
-    places_fill = rw places_start (omega arith);
-    mades_fill = rw mades_start (omega arith);
-  }
+  laid_start = search (rules, arith, side_cases, or_right, eq-eqb, or_left, turned, places_start, mades_start)
 
   own_rest : (x n : ℕ) → mem x (the_news s) ≡ true → own s.halves Rest x n ≡ true
-  own_rest x n m =
-      elim (mem_append x (the_places s) (mades s.book s.memory s.halves) m) [
-        | inl e ↦ or_right (leb (s.halves.base + s.halves.high) x) (ltb x (s.halves.base + s.halves.size) || (eqb x (s.halves.base + s.halves.size) && ltb n 0)) (or_left (ltb x (s.halves.base + s.halves.size)) (eqb x (s.halves.base + s.halves.size) && ltb n 0) (lt-ltb x (s.halves.base + s.halves.size) (omega (arith, places_inside _ _ _ S.laid x e, size_two s.book s.memory x, S.laid.ends, S.laid.top))))
-        | inr e ↦ or_left (leb (s.halves.base + s.halves.high) x) (ltb x (s.halves.base + s.halves.size) || (eqb x (s.halves.base + s.halves.size) && ltb n 0)) (le-leb (s.halves.base + s.halves.high) x (mades_inside _ _ _ S.laid x e).0)
-      ]
+  own_rest x n m = grind (arith, mem_append, or_right, or_left, lt-ltb, places_inside, size_two, le-leb, mades_inside)
 
   turned_sound : (c : Collector) → At (set_halves s (swapped s.halves)) c → ((n : ℕ) → n < s.count → passed_slot c n ≡ false) → resting c ≡ false → Sound (set_collector (set_halves s (swapped s.halves)) c)
   turned_sound c a ps going = record {

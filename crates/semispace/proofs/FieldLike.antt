@@ -1,5 +1,5 @@
 -- A copied field changes nothing that calls see.
-use Rattle.std.proofs.Common.{◌≡◌, ℕ, ◌+◌, ◌-◌, ◌<◌, true, false, ◌&&◌, ◌||◌, eqb, ltb, leb, ◌≢◌, ◌⊎◌, get_or, sym, refl, ap, ◌∙◌, subst, inl, inr, arith}
+use Rattle.std.proofs.Common.{rules, ◌≡◌, ℕ, ◌+◌, ◌-◌, ◌<◌, true, false, ◌&&◌, ◌||◌, eqb, ltb, leb, ◌≢◌, ◌⊎◌, get_or, sym, refl, ap, ◌∙◌, subst, inl, inr, arith}
 use Rattle.std.proofs.lemmas.Bool.{or_from, or_left, or_right, and_right, ltb-true, lt-leb, le-leb, and_from, or_parts, le-ltb, eq-eqb, cases_eq, false≢true}
 use Rattle.semispace.specs.declared.collector.Collector.{Collector}
 use Rattle.semispace.specs.declared.collector.Collector.TheVariants.{Scan, Field}
@@ -17,11 +17,7 @@ abbrev pub Apart : State → Type 0
 Apart s = (a b : ℕ) → mem a (objs s) ≡ true → mem b (objs s) ≡ true → word_at s a ≡ word_at s b → a ≡ b
 
 pub unopened_place : (s : State) (S : Sound s) (x : ℕ) → mem x (the_news s) ≡ true → opened_at s.halves s.collector x ≡ false → mem x (the_places s) ≡ true
-unopened_place s S x k u =
-    elim (mem_append x (the_places s) _ k) [
-      | inl e ↦ e
-      | inr e ↦ absurd (false≢true (sym (or_parts _ _ u).0 ∙ le-leb (s.halves.base + s.halves.high) x (mades_inside _ _ _ S.laid x e).0))
-    ]
+unopened_place s S x k u = grind (arith, mem_append, or_parts, le-leb, mades_inside)
 
 pub opened_made : (s : State) (S : Sound s) (c : Collector) (x : ℕ) → mem x (the_mades s) ≡ true → opened_at s.halves c x ≡ true
 opened_made s S c x e = or_left (leb (s.halves.base + s.halves.high) x) _ (le-leb (s.halves.base + s.halves.high) x (mades_inside _ _ _ S.laid x e).0)
@@ -70,26 +66,13 @@ module _ (s : State) (S : Sound s) (distinct : Apart s) (a from i w : ℕ) (is :
 
     number_f : (x : ℕ) → mem x (all s) ≡ true → number after x ≡ number s x
     unfolding number
-    number_f x k =
-        elim (mem_append x (the_news s) (the_olds s) k) [
-          | inl e ↦
-              by_bool (opened_at s.halves s.collector x)
-              (λ d. rw (new_leads s S.laid x e, opened_same x e, d) (head_f x k))
-              (λ d.
-              let b = (S.cycle going).back x (unopened_place s S x e d) d in
-              rw (new_leads s S.laid x e, opened_same x e, d) (ap (λ v. word_at after (v - 1)) (head_f x k) ∙ head_f (word_at s x - 1) (mem_right (word_at s x - 1) (the_news s) (the_olds s) b.1)))
-          | inr e ↦ rw (old_leads_not s S.laid x e) (head_f x k)
-        ]
+    number_f x k = grind (arith, mem_append, new_leads, opened_same, head_f, going, unopened_place, mem_right, old_leads_not)
 
     old_is_not : (x : ℕ) → mem x (the_olds s) ≡ true → x ≢ a
     old_is_not x m e = false≢true (sym (old_leads_not s S.laid x m) ∙ (ap (λ y. leads_new s.halves (y + 1)) e ∙ new_leads s S.laid a a_news))
 
     fresh : own s.halves s.collector a i ≡ false
-    fresh =
-        let l = S.laid.ends in
-        let q = places_inside _ _ _ S.laid a here.0 in
-        rw is (or_from (leb (s.halves.base + s.halves.high) a) (ltb a a || (eqb a a && ltb i i)) (lt-leb (s.halves.base + s.halves.high) a (omega (arith, size_two s.book s.memory a)))
-        (or_from (ltb a a) (eqb a a && ltb i i) (le-ltb a a (omega arith)) (and_right (eqb a a) (ltb i i) (le-ltb i i (omega arith)))))
+    fresh = grind (arith, places_inside, here, or_from, lt-leb, size_two, le-ltb, and_right)
 
     is_opened : opened_at s.halves s.collector a ≡ true
     is_opened = rw is (or_right (leb (s.halves.base + s.halves.high) a) (ltb a a || (eqb a a && true)) (or_right (ltb a a) (eqb a a && true) (and_from (eqb a a) true (eq-eqb a a refl) refl)))
@@ -150,10 +133,7 @@ module _ (s : State) (S : Sound s) (at : ℕ) (is : s.collector ≡ Scan at) (mo
     in_all = mem_left at (the_news s) (the_olds s) in_new
 
     shut : opened_at s.halves s.collector at ≡ false
-    shut =
-        let l = ltb-true at (next_place s) more in
-        rw is (or_from (leb (s.halves.base + s.halves.high) at) (ltb at at || (eqb at at && false)) (lt-leb (s.halves.base + s.halves.high) at (omega (arith, S.laid.ends)))
-        (or_from (ltb at at) (eqb at at && false) (le-ltb at at (omega arith)) (and_right (eqb at at) false refl)))
+    shut = grind (arith, ltb-true, or_from, lt-leb, le-ltb, and_right)
 
     abbrev num : ℕ
     num = word_at s (word_at s at - 1)
@@ -171,11 +151,7 @@ module _ (s : State) (S : Sound s) (at : ℕ) (is : s.collector ≡ Scan at) (mo
     words_o x n m q = put_other s S.laid at 0 num in_all p0 no_tag0 x (2 + n) m q (λ d. omega (arith, d.1))
 
     head_o : (x : ℕ) → mem x (all s) ≡ true → x ≢ at → word_at then x ≡ word_at s x
-    head_o x m ne =
-        let v = put_other s S.laid at 0 num in_all p0 no_tag0 x 0 m (omega (arith, size_two s.book s.memory x)) (λ d. ne d.0) in
-        let e : x + 0 ≡ x = omega arith in
-        let w : word_at then (x + 0) ≡ word_at s (x + 0) = v in
-        rw e at w
+    head_o x m ne = search (rules, arith, put_other, in_all, p0, no_tag0, size_two)
 
     head_at : word_at then at ≡ num
     head_at =

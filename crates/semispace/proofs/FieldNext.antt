@@ -1,5 +1,5 @@
 -- Where the collector is after a field.
-use Rattle.std.proofs.Common.{◌≡◌, ℕ, ◌+◌, ◌<◌, ◌≤◌, Bool, true, false, ◌&&◌, ◌||◌, eqb, ltb, leb, ◌⊎◌, sym, refl, ap, ◌∙◌, subst, inl, inr, arith}
+use Rattle.std.proofs.Common.{◌≡◌, ℕ, ◌+◌, ◌<◌, ◌≤◌, Bool, true, false, ◌&&◌, ◌||◌, eqb, ltb, leb, ◌⊎◌, refl, ap, subst, inl, inr, arith}
 use Rattle.std.proofs.lemmas.Bool.{or_cases, or_from, or_left, or_right, and_left, and_right, ltb-true, le-leb, lt-ltb, and_from, and_parts, eqb-true, le-ltb, eq-eqb, ne_eqb, cases_eq, cases_order}
 use Rattle.semispace.specs.declared.collector.Collector.{Collector}
 use Rattle.semispace.specs.declared.collector.Collector.TheVariants.{Scan, Field}
@@ -14,18 +14,7 @@ pub or3 : (x y z : Bool) → (x || (y || z)) ≡ true → (x ≡ true) ⊎ ((y �
 or3 x y z h = elim (or_cases x (y || z) h) [ inl e ↦ inl e | inr e ↦ inr (or_cases y z e) ]
 
 pub front_moves : (x at z : ℕ) → 2 ≤ z → (x ≤ at) ⊎ (at + z ≤ x) → (ltb x (at + z) || (eqb x (at + z) && false)) ≡ (ltb x at || (eqb x at && true))
-front_moves x at z t q =
-    elim q [
-      | inl e ↦
-          let l : ltb x (at + z) ≡ true = lt-ltb x (at + z) (omega arith) in
-          elim (cases_eq x at) [
-            | inl d ↦ let m : eqb x at ≡ true = eq-eqb x at d in or_left _ _ l ∙ sym (or_right (ltb x at) (eqb x at && true) (and_from (eqb x at) true m refl))
-            | inr d ↦ let m : ltb x at ≡ true = lt-ltb x at (omega arith) in or_left _ _ l ∙ sym (or_left (ltb x at) (eqb x at && true) m)
-          ]
-      | inr e ↦
-          or_from (ltb x (at + z)) (eqb x (at + z) && false) (le-ltb x (at + z) e) (and_right (eqb x (at + z)) false refl) ∙
-          sym (or_from (ltb x at) (eqb x at && true) (le-ltb x at (omega arith)) (and_left (eqb x at) true (ne_eqb x at (λ d. omega arith))))
-    ]
+front_moves x at z t q = grind (arith, lt-ltb, eq-eqb, or_left, or_right, and_from, or_from, le-ltb, and_right, and_left, ne_eqb)
 
 module _ (s : State) (S : Sound s) (at from i w : ℕ) (is : s.collector ≡ Field (cursor at from i))
     (right : refers s.book (kind_at s at) i ≡ true → good (the_news s) w ≡ true)

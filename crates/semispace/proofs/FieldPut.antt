@@ -1,11 +1,11 @@
 -- A field is set at its home: what stays of layout, numbers and kinds.
-use Rattle.std.proofs.Common.{◌≡◌, ℕ, ◌+◌, ◌-◌, ◌/◌, ◌%◌, ◌<◌, true, false, cond, eqb, ◌≢◌, List, ◌++◌, sym, ap, ◌∙◌, subst, ap₂, inl, inr, add_assoc, arith}
+use Rattle.std.proofs.Common.{rules, ◌≡◌, ℕ, ◌+◌, ◌-◌, ◌/◌, ◌<◌, true, false, cond, eqb, ◌≢◌, List, ◌++◌, sym, ap, ◌∙◌, subst, ap₂, inl, inr, add_assoc, arith}
 use Rattle.std.proofs.lemmas.List.{length-set}
 use Rattle.std.proofs.lemmas.Bool.{cases_eq}
 use Rattle.semispace.specs.declared.collector.Collector.{Collector}
 use Rattle.semispace.specs.declared.collector.Collector.TheVariants.{Rest, Slots, Scan, Field}
 use Rattle.semispace.specs.Layout.{mem}
-use Rattle.semispace.specs.Words.{leads_new, home, home_old, source, State, put_at, own, resting, refers, kind_at, place_of, word_at}
+use Rattle.semispace.specs.Words.{home, source, State, put_at, resting, refers, kind_at, place_of, word_at}
 use Rattle.semispace.specs.Sound.{the_olds, the_news, the_places, size_of, good, opened_at, Twin, At, Cycle, Sound, number}
 use Rattle.semispace.specs.Dues.{objects}
 use Rattle.semispace.specs.Graphs.{Known}
@@ -72,12 +72,7 @@ module _ (s : State) (S : Sound s) (K : Known s) (h i w : ℕ) (kh : mem h (all 
   at_p (Field c) a = (rw places_p a.0, rw olds_p a.1, ap (λ v. v / 16) (tag_p c.from (of_olds c.from a.1)) ∙ a.2, rw (size_p c.at (of_places c.at a.0)) a.3)
 
   twin_p : (x q : ℕ) → mem x (the_olds s) ≡ true → Twin s x q → Twin after x q
-  twin_p x q m t = record {
-    inside = rw places_p t.inside;
-    kind = ap (λ v. v % 16) (tag_p q (of_places q t.inside)) ∙ (t.kind ∙ sym (ap (λ v. v % 16) (tag_p x (of_olds x m))));
-    back = λ u. head_p q (of_places q t.inside) ∙ t.back u;
-    head = λ u. head_p q (of_places q t.inside) ∙ (t.head u ∙ sym (head_p x (of_olds x m)));
-  }
+  twin_p x q m t = search (rules, arith, places_p, tag_p, of_places, of_olds, head_p)
 
   -- a reference field holds w, or what it held
   referring : (xs : List ℕ) (x n : ℕ) → mem x (all s) ≡ true → 2 + n < size_of s x → refers s.book (kind_at s x) n ≡ true → (good (the_news s) w ≡ true → good xs w ≡ true) → good xs (word_at s (x + 2 + n)) ≡ true → good xs (word_at after (x + 2 + n)) ≡ true
@@ -165,9 +160,7 @@ module _ (s : State) (S : Sound s) (K : Known s) (h i w : ℕ) (kh : mem h (all 
   source_p (Field c) x k = ap (λ v. cond (eqb x c.at) c.from (v - 1)) (head_p x k)
 
   pub home_p : (x n : ℕ) → mem x (all s) ≡ true → home after x n ≡ home s x n
-  home_p x n k =
-      ap₂ (λ y q. cond (leads_new s.halves (x + 1)) (cond (own s.halves s.collector x n) x y) (home_old s.halves s.collector q x n))
-      (source_p s.collector x k) (ap (λ v. v / 16) (tag_p x k))
+  home_p x n k = grind (arith, source_p, tag_p)
 
   pub number_p : (x : ℕ) → ((resting s.collector ≡ true → mem x (the_news s) ≡ true) × (resting s.collector ≡ false → mem x (all s) ≡ true)) → number after x ≡ number s x
   number_p x f =

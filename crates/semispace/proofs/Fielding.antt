@@ -7,13 +7,12 @@ use Rattle.graph.specs.Sound as G
 use Rattle.graph.specs.Calls as GC
 use Rattle.graph.specs.Meaning.{headed_charges}
 use Rattle.graph.proofs.Laws.{after_prune}
-use Rattle.semispace.specs.Words.{home, State, forwarded_state, forwarded_reference, put_at, fields_at, resting, refers, kind_at}
+use Rattle.semispace.specs.Words.{home, State, forwarded_state, forwarded_reference, put_at, fields_at, refers, kind_at}
 use Rattle.semispace.specs.Sound.{the_news, good, Sound, number, name}
 use Rattle.semispace.specs.Dues.{kept, due}
 use Rattle.semispace.specs.Graphs.{raw_of, graph_of, Known, Whole}
 use Rattle.semispace.specs.Collected.{meaning_of, Accepted}
 use Rattle.semispace.specs.Callings.{held_at, wrote, linked}
-use Rattle.semispace.proofs.Spreads.{by_bool}
 use Rattle.semispace.proofs.Whole.{slot_reference, raw_sound}
 use Rattle.semispace.proofs.Less.{root_slot, lives_root}
 use Rattle.semispace.proofs.Collecting.{due_rest, due_going}
@@ -45,10 +44,7 @@ module _ (s : State) (S : Sound s) (K : Known s) where
       graph_from e q = unfold graph_of in (ap₂ (λ (b : List Shape) g. prune b g) q e ∙ sym (after_prune s.book (raw_of s) (raw_sound s S K) c ok))
 
       still_going : 0 < due s → 0 < due u
-      still_going z =
-          by_bool (resting s.collector)
-          (λ e. let d = due_rest s e in absurd (omega arith))
-          (λ e. due_going u (rw q e))
+      still_going z = grind (arith, due_rest, due_going)
 
   -- write
   pub write_accepted : (a i w : ℕ) → a < s.count → 0 < get_or s.slots a 0 → i < fields_at s (held_at s a) → refers s.book (kind_at s (held_at s a)) i ≡ false → Whole (wrote s a i w) × Accepted (meaning_of s) (GC.write a i w) (meaning_of (wrote s a i w))

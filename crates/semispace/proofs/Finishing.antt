@@ -1,5 +1,5 @@
 -- After Done only what was reached is left, and the graph is the same.
-use Rattle.std.proofs.Common.{◌≡◌, ℕ, ◌+◌, ◌-◌, ◌<◌, true, false, cond, eqb, ltb, map, get_or, sym, refl, ap, ◌∙◌, subst, inl, inr, arith}
+use Rattle.std.proofs.Common.{rules, ◌≡◌, ℕ, ◌+◌, ◌-◌, ◌<◌, true, false, eqb, ltb, map, get_or, sym, refl, ap, ◌∙◌, subst, inl, inr, arith}
 use Rattle.std.proofs.lemmas.Bool.{or_cases, ne_eqb}
 use Rattle.graph.specs.Graph.{Record, ◌∈◌, Names, Reached, by_slot, by_field}
 use Rattle.graph.specs.Sound.{Same}
@@ -36,20 +36,11 @@ module _ (s : State) (S : Sound s) (K : Known s) (at : ℕ) (is : s.collector �
 
   done_name : (r : ℕ) → good (the_news s) r ≡ true → name (finished s) r ≡ name s r
   unfolding name good
-  done_name r g =
-      elim (or_cases (eqb r 0) (mem (r - 1) (the_news s)) g) [
-        | inl e ↦ rw e
-        | inr e ↦ ap (λ w. cond (eqb r 0) 0 w) (done_number (r - 1) e)
-      ]
+  done_name r g = grind (arith, or_cases, done_number)
 
   -- the object of a new record
   pub object_of : (x o : ℕ) → mem x (the_news s) ≡ true → mem o (objects s) ≡ true → number s x ≡ number s o → Standing s x o
-  object_of x o k j e =
-      let p = stands s S K at is over x k in
-      let jp : mem p.0 (objects s) ≡ true = rw (objects_cycle s going) p.1.object in
-      let same : p.0 ≡ o = number_apart s S K p.0 o jp j (object_number s S p.0 jp ∙ (sym p.1.head ∙ (sym (new_number x k) ∙ e))) in
-      let P : ℕ → Type 0 = λ o. Standing s x o in
-      subst P same p.1
+  object_of x o k j e = search (rules, arith, stands, objects_cycle, going, number_apart, object_number, new_number, Standing)
 
   pub stand_home : (x o i : ℕ) → mem x (the_news s) ≡ true → Standing s x o → home s o i ≡ x
   stand_home x o i k q =
@@ -87,9 +78,7 @@ module _ (s : State) (S : Sound s) (K : Known s) (at : ℕ) (is : s.collector �
       (λ e. rw (q.kind, e, vt, vs))
 
   pub done_record : (x o : ℕ) → mem x (the_news s) ≡ true → Standing s x o → record_of (finished s) x ≡ record_of s o
-  done_record x o k q =
-      let jo : mem o (objects s) ≡ true = rw (objects_cycle s going) q.object in
-      record_of_eq s (finished s) x o (done_number x k ∙ (new_number x k ∙ (q.head ∙ sym (object_number s S o jo)))) q.kind refl (λ i l. done_shown x o i k q l)
+  done_record x o k q = search (rules, arith, objects_cycle, going, record_of_eq, done_number, new_number, object_number, done_shown)
 
   -- what is reached lies in the new half
   pub in_new : {n : ℕ} → Reached s.book (raw_of s) n → (x : ℕ) × (mem x (the_news s) ≡ true) × (number s x ≡ n)

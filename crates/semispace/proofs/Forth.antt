@@ -1,7 +1,7 @@
 -- A reference that is put in a cycle: the place, reserved if there is none, names the same record.
-use Rattle.std.proofs.Common.{◌≡◌, ℕ, zero, suc, ◌+◌, ◌-◌, ◌<◌, ◌≤◌, true, false, not, ◌&&◌, ◌||◌, eqb, ◌⊎◌, List, [], ◌∷◌, map, get_or, take, set as lib_set, sym, refl, ap, ◌∙◌, subst, ap₂, inl, inr, arith}
+use Rattle.std.proofs.Common.{rules, ◌≡◌, ℕ, zero, suc, ◌+◌, ◌-◌, ◌<◌, ◌≤◌, true, false, ◌&&◌, ◌||◌, eqb, ◌⊎◌, List, [], ◌∷◌, map, get_or, take, set as lib_set, sym, refl, ap, ◌∙◌, subst, ap₂, inl, inr, arith}
 use Rattle.std.proofs.lemmas.List.{get_or-set_same, get_or-set_other, length-set}
-use Rattle.std.proofs.lemmas.Bool.{or_cases, or_left, or_right, and_from, and_parts, eqb-true, eq-eqb, cases_eq}
+use Rattle.std.proofs.lemmas.Bool.{or_cases, or_left, or_right, and_from, and_parts, eqb-true, eq-eqb}
 use Rattle.semispace.specs.declared.collector.Collector.{Collector}
 use Rattle.semispace.specs.declared.collector.Collector.TheVariants.{Rest, Slots, Scan, Field}
 use Rattle.semispace.specs.Layout.{mem}
@@ -10,9 +10,9 @@ use Rattle.semispace.specs.Sound.{the_olds, the_news, the_places, size_of, good,
 use Rattle.semispace.specs.declared.collector.Target.{Target}
 use Rattle.semispace.specs.declared.collector.Target.TheVariants.{Settled}
 use Rattle.semispace.specs.Dues.{objects, names_below, edge, root, lives, kept, opened_record, slots_left, fields_left, pending, due}
-use Rattle.semispace.specs.Graphs.{record_of, raw_of, Known}
-use Rattle.semispace.specs.Reach.{some, reached, sum_where}
-use Rattle.semispace.proofs.Spreads.{by_bool, mem_left}
+use Rattle.semispace.specs.Graphs.{raw_of, Known}
+use Rattle.semispace.specs.Reach.{some}
+use Rattle.semispace.proofs.Spreads.{mem_left}
 use Rattle.semispace.proofs.ReserveSound.{good_more}
 use Rattle.semispace.proofs.ReserveAgree.{new_leads}
 use Rattle.semispace.proofs.Putting.{all}
@@ -93,10 +93,7 @@ forth_rest s S K r g =
     subst P (sym q) (record { sound = S; known = K; raw = refl; leads = g; means = refl; collector = refl; slots = refl; count = refl; book = refl; spare = refl; size = refl; kept = omega arith; due = omega arith; kind = λ x q. refl })
 
 pub forth : (s : State) (S : Sound s) (K : Known s) → (r : ℕ) → Reference s S K r → ((x : ℕ) → mem x (objects s) ≡ true → name s r ≡ number s x → lives s x ≡ true) → Forth s (forwarded_state s r) r (forwarded_reference s r)
-forth s S K r g li =
-    by_bool (resting s.collector)
-    (λ e. forth_rest s S K r (g.0 e))
-    (λ e. forth_cycle s S K e r (g.1 e) li)
+forth s S K r g li = search (rules, arith, forth_rest, forth_cycle)
 
 -- Slot b gets v.
 module _ (t : State) (T : Sound t) (K : Known t) (b v : ℕ) (leads : good (the_news t) v ≡ true) (there : b < t.count) where
@@ -110,11 +107,7 @@ module _ (t : State) (T : Sound t) (K : Known t) (b v : ℕ) (leads : good (the_
   at_s (Field c) h = h
 
   slot_is : (xs : List ℕ) (k : ℕ) → k < t.count → good xs (get_or t.slots k 0) ≡ true → good xs v ≡ true → good xs (get_or (lib_set t.slots b v) k 0) ≡ true
-  slot_is xs k l f g =
-      elim (cases_eq k b) [
-        | inl e ↦ let q : get_or (lib_set t.slots b v) k 0 ≡ v = rw e (get_or-set_same t.slots b v 0 (omega (arith, T.enough))) in rw q g
-        | inr e ↦ let q : get_or (lib_set t.slots b v) k 0 ≡ get_or t.slots k 0 = get_or-set_other t.slots b k v 0 e in rw q f
-      ]
+  slot_is xs k l f g = grind (arith, get_or-set_same, get_or-set_other)
 
   pub set_sound : Sound set
   set_sound = record {
@@ -174,9 +167,7 @@ module _ (t : State) (T : Sound t) (K : Known t) (b v : ℕ) (leads : good (the_
 
   pub set_raw : raw_of set ≡ record { slots = lib_set (raw_of t).slots b (name t v); next = (raw_of t).next; records = (raw_of t).records }
   unfolding raw_of
-  set_raw =
-      graph_eq _ _ (map_set (name set) (name t) name_set t.count t.slots b) refl
-      (ap (map (record_of set)) objects_set ∙ map_same (record_of set) (record_of t) (objects t) (λ x k. record_of_eq t set x x (number_set x) refl refl (λ i l. shown_set x i)))
+  set_raw = grind (arith, graph_eq, map_set, name_set, objects_set, map_same, record_of_eq, number_set, shown_set)
 
   names_set : (a n i : ℕ) → names_below set a n i ≡ names_below t a n i
   unfolding names_below
@@ -216,19 +207,11 @@ module _ (t : State) (T : Sound t) (K : Known t) (b v : ℕ) (leads : good (the_
 
     lives_set : (x : ℕ) → mem x (objects t) ≡ true → lives set x ≡ true → lives t x ≡ true
     unfolding lives
-    lives_set x k h =
-        let h2 : reached (objects t) (edge set) (root set) x ≡ true = ap (λ u. reached u (edge set) (root set) x) (sym objects_set) ∙ h in
-        reach_more (objects t) (edge set) (root set) (edge t) (root t) root_set (λ y z m n e. sym (edge_set y z) ∙ e) x k h2
+    lives_set x k h = grind (arith, objects_set, reach_more, root_set, edge_set)
 
     pub set_less : Less t set
     unfolding kept pending
-    set_less = record {
-      kept = let q = sum_le (lives set) (lives t) (size_of set) (size_of t) (objects t) lives_set (λ x k. omega arith) in
-          let P : List ℕ → Type 0 = λ xs. sum_where (lives set) (size_of set) xs ≤ sum_where (lives t) (size_of t) (objects t) in subst P (sym objects_set) q;
-      pending = let q = sum_le (λ a. lives set a && not (opened_record set a)) (λ a. lives t a && not (opened_record t a)) (λ a. size_of set a - 1) (λ a. size_of t a - 1) (objects t)
-          (λ x k h. let u = and_parts (lives set x) (not (opened_record set x)) h in and_from (lives t x) (not (opened_record t x)) (lives_set x k u.0) (ap not (sym (opened_set x)) ∙ u.1)) (λ x k. omega arith) in
-          let P : List ℕ → Type 0 = λ xs. sum_where (λ a. lives set a && not (opened_record set a)) (λ a. size_of set a - 1) xs ≤ sum_where (λ a. lives t a && not (opened_record t a)) (λ a. size_of t a - 1) (objects t) in subst P (sym objects_set) q;
-    }
+    set_less = search (rules, arith, kept, sum_le, lives_set, objects_set, and_parts, and_from, opened_set)
 
     left_set : (c : Collector) → slots_left set c + fields_left set c ≡ slots_left t c + fields_left t c
     left_set Rest = refl
@@ -237,9 +220,4 @@ module _ (t : State) (T : Sound t) (K : Known t) (b v : ℕ) (leads : good (the_
     left_set (Field c) = refl
 
     pub set_due : due set ≤ due t
-    set_due =
-        let w = set_less in
-        let p = w.pending in
-        by_bool (resting t.collector)
-        (λ e. let a = due_rest set e in omega arith)
-        (λ e. let a = due_is set e in let c = due_is t e in let l = left_set t.collector in omega arith)
+    set_due = grind (arith, set_less, due_rest, due_is, left_set)

@@ -1,5 +1,5 @@
 -- Each transition of a cycle takes at least one step off the due.
-use Rattle.std.proofs.Common.{◌≡◌, ℕ, ◌+◌, ◌-◌, ◌<◌, ◌≤◌, true, false, ◌&&◌, ◌||◌, eqb, ltb, leb, get_or, set, sym, refl, ap, ◌∙◌, subst, inl, inr, arith}
+use Rattle.std.proofs.Common.{rules, ◌≡◌, ℕ, ◌+◌, ◌-◌, ◌<◌, ◌≤◌, true, false, ◌&&◌, ◌||◌, eqb, ltb, leb, get_or, set, sym, refl, ap, ◌∙◌, subst, inl, inr, arith}
 use Rattle.std.proofs.lemmas.Bool.{or_left, or_right, ltb-true, lt-ltb, and_parts, eqb-true, cases_eq}
 use Rattle.semispace.specs.declared.collector.Collector.{Collector}
 use Rattle.semispace.specs.declared.collector.Collector.TheVariants.{Slots, Scan, Field}
@@ -81,11 +81,7 @@ pub record Gain (s t : State) : Type 0 where
   pub due : due t < due s
 
 pub gained : (s u : State) (n : ℕ) → resting s.collector ≡ false → resting u.collector ≡ false → slots_left s s.collector + fields_left s s.collector ≡ n → Steps u n → Less s u → Gain s u
-gained s u n g h e st l =
-    let a = due_is s g in
-    let b = due_is u h in
-    let p = l.pending in
-    record { kept = l.kept; due = omega arith }
+gained s u n g h e st l = search (rules, arith, due_is, kept, due)
 
 module _ (s : State) (S : Sound s) (K : Known s) where
   pub passed_gain : (n : ℕ) → s.collector ≡ Slots n → Gain s (passed s n)

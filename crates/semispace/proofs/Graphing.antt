@@ -1,5 +1,5 @@
 -- Two states that show the same records have the same graph.
-use Rattle.std.proofs.Common.{◌≡◌, ℕ, zero, suc, ◌+◌, ◌-◌, ◌<◌, ◌≤◌, true, false, cond, T, eqb, ltb, leb, List, [], ◌∷◌, ◌++◌, map, length, get_or, take, sym, refl, ap, ◌∙◌, ap₂, inl, inr, arith}
+use Rattle.std.proofs.Common.{rules, ◌≡◌, ℕ, zero, suc, ◌+◌, ◌<◌, ◌≤◌, true, false, T, eqb, List, [], ◌∷◌, ◌++◌, map, length, get_or, take, sym, refl, ap, ◌∙◌, ap₂, inl, inr, arith}
 use Rattle.std.proofs.lemmas.Bool.{or_cases, or_left, or_right, lt-ltb, eq-eqb, false≢true}
 use Rattle.std.specs.List.{range_with_len}
 use Rattle.std.proofs.lemmas.List.{append-nil}
@@ -8,8 +8,8 @@ use Rattle.graph.specs.Graph.{size, Record, Graph, ◌∈◌, prune}
 use Rattle.semispace.specs.declared.collector.Collector.{Collector}
 use Rattle.semispace.specs.declared.collector.Collector.TheVariants.{Rest}
 use Rattle.semispace.specs.Layout.{mem}
-use Rattle.semispace.specs.Words.{home, State, set_halves, swapped, set_collector, fields_at, own, resting, refers, kind_at, place_of, word_at}
-use Rattle.semispace.specs.Sound.{the_olds, the_news, size_of, good, opened_at, Sound, number, value, name, shown}
+use Rattle.semispace.specs.Words.{home, State, set_halves, swapped, set_collector, fields_at, resting, refers, kind_at, place_of, word_at}
+use Rattle.semispace.specs.Sound.{the_olds, the_news, size_of, good, Sound, number, value, name, shown}
 use Rattle.semispace.specs.Dues.{objects}
 use Rattle.semispace.specs.Graphs.{record_of, raw_of, graph_of}
 use Rattle.semispace.proofs.Spreads.{by_bool, mem_cases, mem_first, mem_head, size_two}
@@ -77,16 +77,10 @@ graph_like s t S T g L = ap₂ (λ (b : List Shape) r. prune b r) L.book (raw_li
 -- At rest every record of the half is whole.
 pub rest_number : (s : State) (S : Sound s) (x : ℕ) → s.collector ≡ Rest → mem x (the_news s) ≡ true → number s x ≡ word_at s x
 unfolding number
-rest_number s S x is k =
-    let i = news_inside s S.laid x k in
-    let o : opened_at s.halves s.collector x ≡ true = rw is (or_right (leb (s.halves.base + s.halves.high) x) _ (or_left (ltb x (s.halves.base + s.halves.size)) _ (lt-ltb x (s.halves.base + s.halves.size) (omega (arith, size_two s.book s.memory x))))) in
-    rw (new_leads s S.laid x k, o)
+rest_number s S x is k = grind (arith, news_inside, or_right, or_left, lt-ltb, size_two, new_leads)
 
 pub rest_home : (s : State) (S : Sound s) (x n : ℕ) → s.collector ≡ Rest → mem x (the_news s) ≡ true → home s x n ≡ x
-rest_home s S x n is k =
-    let i = news_inside s S.laid x k in
-    let o : own s.halves s.collector x n ≡ true = rw is (or_right (leb (s.halves.base + s.halves.high) x) _ (or_left (ltb x (s.halves.base + s.halves.size)) _ (lt-ltb x (s.halves.base + s.halves.size) (omega (arith, size_two s.book s.memory x))))) in
-    rw (new_leads s S.laid x k, o)
+rest_home s S x n is k = grind (arith, news_inside, or_right, or_left, lt-ltb, size_two, new_leads)
 
 pub old_number : (s : State) (S : Sound s) (x : ℕ) → mem x (the_olds s) ≡ true → number s x ≡ word_at s x
 unfolding number
@@ -102,11 +96,7 @@ module _ (s : State) (S : Sound s) (is : s.collector ≡ Rest) (c : Collector) (
 
   begun_name : (r : ℕ) → good (the_news s) r ≡ true → name begun r ≡ name s r
   unfolding name good
-  begun_name r g =
-      elim (or_cases (eqb r 0) (mem (r - 1) (the_news s)) g) [
-        | inl e ↦ rw e
-        | inr e ↦ ap (λ w. cond (eqb r 0) 0 w) (begun_number (r - 1) e)
-      ]
+  begun_name r g = grind (arith, or_cases, begun_number)
 
   begun_value : (x i : ℕ) → mem x (the_news s) ≡ true → value begun x i ≡ value s x i
   unfolding value
@@ -117,11 +107,7 @@ module _ (s : State) (S : Sound s) (is : s.collector ≡ Rest) (c : Collector) (
 
   rest_good : (x i : ℕ) → mem x (the_news s) ≡ true → 2 + i < size_of s x → refers s.book (kind_at s x) i ≡ true → good (the_news s) (value s x i) ≡ true
   unfolding value
-  rest_good x i k l r =
-      let j = news_inside s S.laid x k in
-      let o : own s.halves s.collector x i ≡ true = rw is (or_right (leb (s.halves.base + s.halves.high) x) _ (or_left (ltb x (s.halves.base + s.halves.size)) _ (lt-ltb x (s.halves.base + s.halves.size) (omega (arith, size_two s.book s.memory x))))) in
-      let e : x + (2 + i) ≡ x + 2 + i = omega arith in
-      rw (rest_home s S x i is k, e) (S.news_refer x i k l o r)
+  rest_good x i k l r = search (rules, arith, news_inside, or_right, or_left, lt-ltb, size_two, rest_home)
 
   begun_shown : (x i : ℕ) → mem x (the_news s) ≡ true → 2 + i < size_of s x → shown begun x i ≡ shown s x i
   unfolding shown

@@ -1,12 +1,12 @@
 -- Where a field's value is: the new copy if the field has been copied, else the old one.
-use Rattle.std.proofs.Common.{◌≡◌, ℕ, ◌+◌, ◌-◌, ◌<◌, true, false, cond, ◌&&◌, ◌||◌, eqb, ltb, leb, ◌≢◌, ◌⊎◌, ◌++◌, sym, refl, ap, ◌∙◌, subst, inl, inr, arith}
+use Rattle.std.proofs.Common.{rules, ◌≡◌, ℕ, ◌+◌, ◌-◌, ◌<◌, true, false, eqb, ◌≢◌, ◌⊎◌, ◌++◌, sym, refl, ap, ◌∙◌, subst, inl, inr, arith}
 use Rattle.std.proofs.lemmas.Bool.{eqb-false, or_cases, or_from, and_left, and_right, le-leb, or_parts, eqb-true, ne_eqb, false≢true}
 use Rattle.graph.specs.Graph.{size}
 use Rattle.semispace.specs.declared.halves.Halves.{Halves}
 use Rattle.semispace.specs.declared.collector.Collector.{Collector}
 use Rattle.semispace.specs.declared.collector.Collector.TheVariants.{Rest, Slots, Scan, Field}
 use Rattle.semispace.specs.Layout.{size_at, mem, mades}
-use Rattle.semispace.specs.Words.{home, source, State, front, filled, own, resting, refers, kind_at, place_of, word_at}
+use Rattle.semispace.specs.Words.{home, source, State, front, own, resting, refers, kind_at, place_of, word_at}
 use Rattle.semispace.specs.Sound.{the_olds, the_news, the_places, size_of, good, is_open, opened_at, Twin, At, Sound, number, value, name, shown}
 use Rattle.semispace.proofs.Spreads.{by_bool, mem_append, mem_left}
 use Rattle.semispace.proofs.Reserving.{mades_inside}
@@ -23,12 +23,7 @@ unfolding size_at
 size_by_kind s x y e = ap (λ k. 2 + size s.book k) e
 
 own_unopened : (h : Halves) (c : Collector) (x i : ℕ) → own h c x i ≡ false → (is_open c ≡ true → x ≢ front h.base h.size c) → opened_at h c x ≡ false
-own_unopened h c x i ow ne =
-    let F = front h.base h.size c in
-    let u = or_parts (leb (h.base + h.high) x) (ltb x F || (eqb x F && ltb i (filled c))) ow in
-    let v = or_parts (ltb x F) (eqb x F && ltb i (filled c)) u.1 in
-    or_from (leb (h.base + h.high) x) (ltb x F || (eqb x F && is_open c)) u.0
-    (or_from (ltb x F) (eqb x F && is_open c) v.0 (by_bool (is_open c) (λ e. and_left (eqb x F) (is_open c) (ne_eqb x F (ne e))) (λ e. and_right (eqb x F) (is_open c) e)))
+own_unopened h c x i ow ne = grind (arith, or_parts, or_from, and_left, ne_eqb, and_right)
 
 module _ (s : State) (S : Sound s) (going : resting s.collector ≡ false) where
   twin_of : (f p : ℕ) → mem f (the_olds s) ≡ true → place_of s f ≡ p + 1 → Twin s f p
@@ -47,11 +42,7 @@ module _ (s : State) (S : Sound s) (going : resting s.collector ≡ false) where
       (λ e. let b = bk x k (own_unopened s.halves (Field c) x i ow (λ z. eqb-false x c.at e)) in rw e (b.1, b.2))
 
   pub place_unless_own : (x i : ℕ) → mem x (the_news s) ≡ true → own s.halves s.collector x i ≡ false → mem x (the_places s) ≡ true
-  place_unless_own x i k u =
-      elim (mem_append x (the_places s) _ k) [
-        | inl e ↦ e
-        | inr e ↦ absurd (false≢true (sym (or_parts (leb (s.halves.base + s.halves.high) x) _ u).0 ∙ le-leb (s.halves.base + s.halves.high) x (mades_inside _ _ _ S.laid x e).0))
-      ]
+  place_unless_own x i k u = search (rules, arith, mem_append, or_parts, le-leb, mades_inside)
 
   pub homed_news : (x i : ℕ) → mem x (the_news s) ≡ true → Homed s x i (home s x i)
   homed_news x i k =
@@ -110,22 +101,11 @@ module _ (s : State) (S : Sound s) (going : resting s.collector ≡ false) (o : 
 
   pub value_kept : (x i : ℕ) → mem x (the_news s ++ the_olds s) ≡ true → 2 + i < size_of s x → value (noted_state s o) x i ≡ value s x i
   unfolding value
-  value_kept x i k lt =
-      let h = homed s S going x i k in
-      let lt2 : 2 + i < size_of s (home s x i) = rw (size_by_kind s (home s x i) x h.kind) lt in
-      rw (home_kept x i k)
-      (elim h.where_is [
-        | inl e ↦ words_olds s S going o is_old none (home s x i) (2 + i) e lt2 (λ d. omega (arith, d.1))
-        | inr e ↦ words_news s S going o is_old none (home s x i) (2 + i) e.0 lt2
-      ])
+  value_kept x i k lt = search (rules, arith, homed, size_by_kind, home_kept, words_olds, words_news)
 
   pub name_kept : (r : ℕ) → good (the_news s ++ the_olds s) r ≡ true → name (noted_state s o) r ≡ name s r
   unfolding name good
-  name_kept r g =
-      elim (or_cases (eqb r 0) (mem (r - 1) (the_news s ++ the_olds s)) g) [
-        | inl e ↦ rw e
-        | inr e ↦ ap (λ w. cond (eqb r 0) 0 w) (number_kept (r - 1) e)
-      ]
+  name_kept r g = grind (arith, or_cases, number_kept)
 
   pub shown_kept : (x i : ℕ) → mem x (the_news s ++ the_olds s) ≡ true → 2 + i < size_of s x → shown (noted_state s o) x i ≡ shown s x i
   unfolding shown

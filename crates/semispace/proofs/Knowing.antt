@@ -1,5 +1,5 @@
 -- Numbers, kinds and sources stay known from step to step.
-use Rattle.std.proofs.Common.{◌≡◌, ℕ, ◌+◌, ◌-◌, ◌<◌, true, false, ◌&&◌, ◌||◌, eqb, ltb, leb, ◌⊎◌, [], sym, refl, ◌∙◌, subst, inl, inr, arith}
+use Rattle.std.proofs.Common.{rules, ◌≡◌, ℕ, ◌+◌, ◌-◌, true, false, ltb, ◌⊎◌, sym, refl, ◌∙◌, subst, inl, inr, arith}
 use Rattle.std.proofs.lemmas.Bool.{or_left, or_right, le-leb, lt-ltb, ltb-false, true≢false, false≢true}
 use Rattle.semispace.specs.declared.collector.Collector.{Collector}
 use Rattle.semispace.specs.declared.collector.Collector.TheVariants.{Rest, Slots, Scan, Field}
@@ -32,17 +32,7 @@ pub known_apart : (s : State) → Known s → resting s.collector ≡ false → 
 known_apart s K g a b ka kb e = K.apart a b (rw (objects_cycle s g) ka) (rw (objects_cycle s g) kb) e
 
 pub known_like : (s t : State) → resting s.collector ≡ false → Known s → Like s t → Known t
-known_like s t g K L =
-    let into : (a : ℕ) → mem a (objects t) ≡ true → mem a (objs s) ≡ true = λ a k.
-    let k1 : mem a (objs t) ≡ true = rw (objects_cycle t L.going) at k in rw (like_objs s t L) at k1 in
-    let back : (a : ℕ) → mem a (objs s) ≡ true → mem a (objects s) ≡ true = λ a k. rw (objects_cycle s g) k in
-    record {
-      first = λ l. subst (λ n. 0 < n) (sym L.next) (K.first (subst (λ n. 0 < n) L.count l));
-      apart = λ a b ka kb e. K.apart a b (back a (into a ka)) (back b (into b kb)) (sym (L.head a (into a ka)) ∙ (e ∙ L.head b (into b kb)));
-      given = λ a k. rw (L.head a (into a k), L.next) (K.given a (back a (into a k)));
-      kinds = λ a k. rw (L.kind a (objs_all s a (into a k)), L.book) (K.kinds a (back a (into a k)));
-      sourced = λ r p k. has_from t p (L.sourced (λ q l. source_of s q (K.sourced g q l)) p k);
-    }
+known_like s t g K L = search (rules, arith, objs, objects_cycle, like_objs, objs_all, has_from, source_of)
 
 -- Start.
 module _ (s : State) (S : Sound s) (K : Known s) (is : s.collector ≡ Rest) (c : Collector) (going_c : resting c ≡ false) where
@@ -50,24 +40,10 @@ module _ (s : State) (S : Sound s) (K : Known s) (is : s.collector ≡ Rest) (c 
   begun = set_collector (set_halves s (swapped s.halves)) c
 
   pub begun_objects : (a : ℕ) → mem a (objects begun) ≡ true → mem a (the_news s) ≡ true
-  begun_objects a k =
-      let k1 : mem a (objs begun) ≡ true = rw (objects_cycle begun going_c) at k in
-      elim (mem_append a (the_olds begun) (the_mades begun) k1) [
-        | inl e ↦ rw (olds_start s S is) at e
-        | inr e ↦ let z : mem a [] ≡ true = rw (mades_start s S is) at e in absurd (false≢true z)
-      ]
+  begun_objects a k = grind (arith, objs, objects_cycle, mem_append, the_mades, olds_start, mades_start)
 
   pub known_begun : Known begun
-  known_begun =
-      let at_rest : resting s.collector ≡ true = rw is in
-      let into : (a : ℕ) → mem a (objects begun) ≡ true → mem a (objects s) ≡ true = λ a k. rw (objects_rest s at_rest) (begun_objects a k) in
-      record {
-        first = K.first;
-        apart = λ a b ka kb e. K.apart a b (into a ka) (into b kb) e;
-        given = λ a k. K.given a (into a k);
-        kinds = λ a k. K.kinds a (into a k);
-        sourced = λ r p k. let z : mem p [] ≡ true = rw (places_start s S is) at k in absurd (false≢true z);
-      }
+  known_begun = search (rules, arith, objects_rest, begun_objects, places_start)
 
 -- Done.
 pub record Standing (s : State) (x o : ℕ) : Type 0 where
@@ -81,18 +57,10 @@ module _ (s : State) (S : Sound s) (K : Known s) (at : ℕ) (is : s.collector �
   going = rw is
 
   pub all_opened : (x : ℕ) → mem x (the_news s) ≡ true → opened_at s.halves s.collector x ≡ true
-  all_opened x m =
-      elim (mem_append x (the_places s) (the_mades s) m) [
-        | inl e ↦ rw is (or_right (leb (s.halves.base + s.halves.high) x) (ltb x at || (eqb x at && false)) (or_left (ltb x at) (eqb x at && false) (lt-ltb x at (omega (arith, places_inside _ _ _ S.laid x e, size_two s.book s.memory x, ltb-false at (next_place s) over)))))
-        | inr e ↦ opened_made s S s.collector x e
-      ]
+  all_opened x m = search (rules, arith, mem_append, the_mades, or_right, or_left, lt-ltb, places_inside, size_two, ltb-false, opened_made)
 
   pub all_own : (x n : ℕ) → mem x (the_news s) ≡ true → own s.halves s.collector x n ≡ true
-  all_own x n m =
-      elim (mem_append x (the_places s) (the_mades s) m) [
-        | inl e ↦ rw is (or_right (leb (s.halves.base + s.halves.high) x) (ltb x at || (eqb x at && ltb n 0)) (or_left (ltb x at) (eqb x at && ltb n 0) (lt-ltb x at (omega (arith, places_inside _ _ _ S.laid x e, size_two s.book s.memory x, ltb-false at (next_place s) over)))))
-        | inr e ↦ or_left (leb (s.halves.base + s.halves.high) x) _ (le-leb (s.halves.base + s.halves.high) x (mades_inside _ _ _ S.laid x e).0)
-      ]
+  all_own x n m = search (rules, arith, mem_append, the_mades, or_right, or_left, lt-ltb, places_inside, size_two, ltb-false, le-leb, mades_inside)
 
   pub stands : (x : ℕ) → mem x (the_news s) ≡ true → (o : ℕ) × Standing s x o
   stands x m =

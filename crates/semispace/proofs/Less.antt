@@ -1,5 +1,5 @@
 -- A state in which less is named keeps less, and no more is due.
-use Rattle.std.proofs.Common.{◌≡◌, ℕ, zero, suc, ◌+◌, ◌-◌, ◌<◌, ◌≤◌, Bool, true, false, not, ◌&&◌, ◌||◌, eqb, ◌⊎◌, List, [], ◌∷◌, map, length, get_or, take, sym, refl, ap, ◌∙◌, subst, ap₂, inl, inr, arith}
+use Rattle.std.proofs.Common.{rules, ◌≡◌, ℕ, zero, suc, ◌+◌, ◌-◌, ◌<◌, ◌≤◌, Bool, true, false, not, ◌&&◌, ◌||◌, eqb, ◌⊎◌, List, [], ◌∷◌, map, length, get_or, take, sym, refl, ap, ◌∙◌, ap₂, inl, inr, arith}
 use Rattle.std.proofs.lemmas.Bool.{or_cases, or_left, or_right, and_right, and_from, and_parts, eqb-true, eq-eqb, false≢true}
 use Rattle.kinds.specs.Shapes.{Shape}
 use Rattle.semispace.specs.Layout.{mem}
@@ -108,10 +108,7 @@ opened_from s p a k e o = some_from (λ p. eqb (number s p) (number s a) && open
 
 pub opened_is : (s : State) (a : ℕ) → opened_record s a ≡ true → (p : ℕ) × (mem p (the_news s) ≡ true) × (number s p ≡ number s a) × (opened_at s.halves s.collector p ≡ true)
 unfolding opened_record
-opened_is s a h =
-    let w = some_is (λ p. eqb (number s p) (number s a) && opened_at s.halves s.collector p) (the_news s) h in
-    let v = and_parts (eqb (number s w.0) (number s a)) (opened_at s.halves s.collector w.0) w.2 in
-    (w.0, w.1, eqb-true (number s w.0) (number s a) v.0, v.1)
+opened_is s a h = search (rules, arith, some_is, and_parts, eqb-true)
 
 module _ (s t : State) (S : Sound s) (T : Sound t) (going : resting s.collector ≡ false) (L : Like s t)
     (rooted : (p : ℕ) → mem p (the_news t) ≡ true → (mem p (the_news s) ≡ true) ⊎ ((b : ℕ) × (mem b (objs s) ≡ true) × (number t p ≡ number s b) × (lives s b ≡ true)))
@@ -133,9 +130,7 @@ module _ (s t : State) (S : Sound s) (T : Sound t) (going : resting s.collector 
 
     edge_like : (a b : ℕ) → mem a (objs s) ≡ true → mem b (objs s) ≡ true → edge t a b ≡ edge s a b
     unfolding edge
-    edge_like a b ka kb =
-        rw (like_size s t L a (objs_all s a ka), L.number b (objs_all s b kb))
-        (names_like a (number s b) (size_of s a - 2) ka (omega (arith, size_two s.book s.memory a)))
+    edge_like a b ka kb = grind (arith, like_size, objs_all, names_like, size_two)
 
     root_like : (x : ℕ) → mem x (objs s) ≡ true → root t x ≡ true → lives s x ≡ true
     root_like x k h =
@@ -156,11 +151,7 @@ module _ (s t : State) (S : Sound s) (T : Sound t) (going : resting s.collector 
 
     pub lives_like : (x : ℕ) → mem x (objects s) ≡ true → lives t x ≡ true → lives s x ≡ true
     unfolding lives
-    lives_like x k h =
-        let h2 : reached (objects s) (edge t) (root t) x ≡ true = ap (λ u. reached u (edge t) (root t) x) (sym lists) ∙ h in
-        reach_more (objects s) (edge t) (root t) (edge s) (root s)
-        (λ y m e. root_like y (to_objs y m) e)
-        (λ y z m n e. sym (edge_like y z (to_objs y m) (to_objs z n)) ∙ e) x k h2
+    lives_like x k h = grind (arith, lists, reach_more, root_like, to_objs, edge_like)
 
     opened_like2 : (x : ℕ) → mem x (objs s) ≡ true → opened_record s x ≡ true → opened_record t x ≡ true
     opened_like2 x k h =
@@ -168,28 +159,15 @@ module _ (s t : State) (S : Sound s) (T : Sound t) (going : resting s.collector 
         opened_from t w.0 x (L.news w.0 w.1) (L.number w.0 (mem_left w.0 (the_news s) (the_olds s) w.1) ∙ (w.2 ∙ sym (L.number x (objs_all s x k)))) (opens w.0 w.1 w.3)
 
     pub left_like : (x : ℕ) → mem x (objects s) ≡ true → (lives t x && not (opened_record t x)) ≡ true → (lives s x && not (opened_record s x)) ≡ true
-    left_like x k h =
-        let v = and_parts (lives t x) (not (opened_record t x)) h in
-        and_from (lives s x) (not (opened_record s x)) (lives_like x k v.0)
-        (by_bool (opened_record s x)
-        (λ e. let o = opened_like2 x (to_objs x k) e in let z : not true ≡ true = rw o at v.1 in absurd (false≢true z))
-        (λ e. rw e))
+    left_like x k h = grind (arith, and_parts, and_from, lives_like, opened_like2, to_objs)
 
     size_same : (x : ℕ) → mem x (objects s) ≡ true → size_of t x ≡ size_of s x
     size_same x k = like_size s t L x (objs_all s x (to_objs x k))
 
     pub less_like : Less s t
     unfolding kept pending
-    less_like = record {
-      kept = let q = sum_le (lives t) (lives s) (size_of t) (size_of s) (objects s) lives_like (λ x k. let z = size_same x k in omega arith) in
-          let P : List ℕ → Type 0 = λ xs. sum_where (lives t) (size_of t) xs ≤ sum_where (lives s) (size_of s) (objects s) in subst P (sym lists) q;
-      pending = let q = sum_le (λ a. lives t a && not (opened_record t a)) (λ a. lives s a && not (opened_record s a)) (λ a. size_of t a - 1) (λ a. size_of s a - 1) (objects s) left_like (λ x k. let z = size_same x k in omega arith) in
-          let P : List ℕ → Type 0 = λ xs. sum_where (λ a. lives t a && not (opened_record t a)) (λ a. size_of t a - 1) xs ≤ sum_where (λ a. lives s a && not (opened_record s a)) (λ a. size_of s a - 1) (objects s) in subst P (sym lists) q;
-    }
+    less_like = search (rules, arith, kept, sum_le, lives_like, size_same, lists, pending, left_like)
 
     pub opened_less : (o : ℕ) → mem o (objects s) ≡ true → lives s o ≡ true → opened_record s o ≡ false → opened_record t o ≡ true → pending t + (size_of s o - 1) ≤ pending s
     unfolding pending
-    opened_less o k li nay yea =
-        let q = sum_less (λ a. lives t a && not (opened_record t a)) (λ a. lives s a && not (opened_record s a)) (λ a. size_of t a - 1) (λ a. size_of s a - 1) (objects s) o left_like (λ x k. let z = size_same x k in omega arith) k
-        (and_right (lives t o) (not (opened_record t o)) (rw yea)) (and_from (lives s o) (not (opened_record s o)) li (rw nay)) in
-        let P : List ℕ → Type 0 = λ xs. sum_where (λ a. lives t a && not (opened_record t a)) (λ a. size_of t a - 1) xs + (size_of s o - 1) ≤ sum_where (λ a. lives s a && not (opened_record s a)) (λ a. size_of s a - 1) (objects s) in subst P (sym lists) q
+    opened_less o k li nay yea = grind (arith, sum_less, left_like, size_same, and_right, and_from, lists)

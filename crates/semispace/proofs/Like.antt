@@ -1,5 +1,5 @@
 -- States that look alike to calls: reserving a place is one such change.
-use Rattle.std.proofs.Common.{◌≡◌, ℕ, ◌+◌, ◌-◌, ◌/◌, ◌%◌, ◌<◌, true, false, cond, T, eqb, leb, ◌≢◌, List, ◌++◌, get_or, sym, refl, ap, ◌∙◌, inl, inr, arith}
+use Rattle.std.proofs.Common.{rules, ◌≡◌, ℕ, ◌+◌, ◌-◌, ◌/◌, ◌%◌, ◌<◌, true, false, T, eqb, leb, ◌≢◌, List, ◌++◌, get_or, sym, refl, ap, ◌∙◌, inl, inr, arith}
 use Rattle.std.proofs.lemmas.Bool.{eqb-false, or_cases, or_left, le-leb}
 use Rattle.graph.specs.Graph.{size}
 use Rattle.semispace.specs.declared.collector.Collector.{Collector}
@@ -41,19 +41,11 @@ pub record Like (s t : State) : Type 0 where
   pub sourced : ((p : ℕ) → mem p (the_places s) ≡ true → Sourced s p) → (p : ℕ) → mem p (the_places t) ≡ true → Sourced t p
 
 pub objs_all : (s : State) (x : ℕ) → mem x (objs s) ≡ true → mem x (all s) ≡ true
-objs_all s x k =
-    elim (mem_append x (the_olds s) (the_mades s) k) [
-      | inl e ↦ mem_right x (the_news s) (the_olds s) e
-      | inr e ↦ mem_left x (the_news s) (the_olds s) (mem_right x (the_places s) (the_mades s) e)
-    ]
+objs_all s x k = grind (arith, mem_append, mem_right, mem_left)
 
 pub name_by : (s t : State) → ((x : ℕ) → mem x (all s) ≡ true → number t x ≡ number s x) → (r : ℕ) → good (all s) r ≡ true → name t r ≡ name s r
 unfolding name good
-name_by s t f r g =
-    elim (or_cases (eqb r 0) (mem (r - 1) (all s)) g) [
-      | inl e ↦ rw e
-      | inr e ↦ ap (λ w. cond (eqb r 0) 0 w) (f (r - 1) e)
-    ]
+name_by s t f r g = grind (arith, or_cases, all)
 
 -- A place is reserved.
 module _ (s : State) (S : Sound s) (going : resting s.collector ≡ false) (o : ℕ) (is_old : mem o (the_olds s) ≡ true) (none : place_of s o ≡ 0) where
@@ -153,12 +145,7 @@ module _ (s : State) (S : Sound s) (going : resting s.collector ≡ false) (m : 
 
       value_made : (x i : ℕ) → mem x (the_mades s) ≡ true → 2 + i < size_of s x → value turned x i ≡ value s x i
       unfolding value
-      value_made x i k l =
-          let kn : mem x (the_news s) ≡ true = mem_right x (the_places s) (the_mades s) k in
-          let nl = new_leads s S.laid x kn in
-          let hs : home s x i ≡ x = rw (nl, own_made s.collector x i k) in
-          let ht : home turned x i ≡ x = rw (nl, own_made c x i k) in
-          rw (hs, ht) (word_news_t x i kn l (own_made s.collector x i k))
+      value_made x i k l = search (rules, arith, mem_right, new_leads, own_made)
 
       value_objs : (x i : ℕ) → mem x (objs s) ≡ true → 2 + i < size_of s x → Alike s (kind_at s x) i (value turned x i) (value s x i)
       value_objs x i k l = elim (mem_append x (the_olds s) (the_mades s) k) [ inl e ↦ value_old x i e l | inr e ↦ same_alike _ _ _ _ (value_made x i e l) ]

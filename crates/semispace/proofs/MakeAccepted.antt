@@ -1,5 +1,5 @@
 -- A make: its graph, its spare, due and kept after it are the call's.
-use Rattle.std.proofs.Common.{◌≡◌, ℕ, ◌+◌, ◌<◌, ◌≤◌, true, ◌⊎◌, map, length, get_or, set, replicate, sym, refl, ap, ◌∙◌, subst, inl, inr, arith}
+use Rattle.std.proofs.Common.{rules, ◌≡◌, ℕ, ◌+◌, ◌<◌, ◌≤◌, true, ◌⊎◌, map, length, get_or, set, replicate, sym, refl, ap, ◌∙◌, subst, inl, inr, arith}
 use Rattle.std.proofs.lemmas.List.{get_or-map, ext_get_or, get_or-replicate, length-replicate}
 use Rattle.std.proofs.lemmas.List.FromFn.{length-map-range_with_len, get_or-map-range_with_len}
 use Rattle.std.specs.List.{range_with_len}
@@ -11,13 +11,12 @@ use Rattle.graph.specs.Meaning.{headed_charges}
 use Rattle.graph.proofs.Changes.{in_map, map_in}
 use Rattle.graph.proofs.Views.{same_after}
 use Rattle.semispace.specs.Layout.{mem}
-use Rattle.semispace.specs.Words.{State, resting, kind_at, made_at, fields_of, fields_at}
+use Rattle.semispace.specs.Words.{State, kind_at, made_at, fields_of, fields_at}
 use Rattle.semispace.specs.Sound.{the_news, good, Sound, number, name, shown}
 use Rattle.semispace.specs.Dues.{objects, lives, due}
 use Rattle.semispace.specs.Graphs.{record_of, raw_of, graph_of, Known, Whole}
 use Rattle.semispace.specs.Collected.{meaning_of, Accepted}
 use Rattle.semispace.specs.Callings.{grown_by, made_in}
-use Rattle.semispace.proofs.Spreads.{by_bool}
 use Rattle.semispace.proofs.Graphing.{mem_in, in_mem, record_eq}
 use Rattle.semispace.proofs.SlotSound.{good_from}
 use Rattle.semispace.proofs.Likes.{name_of}
@@ -118,21 +117,11 @@ module _ (s : State) (S : Sound s) (K : Known s) (a k : ℕ) (known : k < 16) (k
       ]
 
   same : Same s.book (GC.changed s.book (raw_of s) (GC.make a k)) (raw_of u)
-  same =
-      let f : (raw_of s).next ≡ s.next = next_of in
-      subst (λ (g : Graph). Same s.book (GC.changed s.book (raw_of s) (GC.make a k)) g) (sym raw_made)
-      (record {
-        slots = ap (λ n. set (raw_of s).slots a n) f;
-        next = ap (λ n. n + 1) f;
-        there = λ r i q. elim i [ inl e ↦ subst (λ x. x ∈ map (record_of t) (objects t)) (sym (e ∙ ap (λ n. GC.fresh s.book n k) f)) new_in | inr m ↦ old_in r m ];
-        back = λ r i q. elim (back_in r i) [ inl e ↦ inl (e ∙ ap (λ n. GC.fresh s.book n k) (sym f)) | inr m ↦ inr m ];
-      })
+  same = search (rules, arith, next_of, raw_made, new_in, old_in, back_in)
 
   graph_made : graph_of u ≡ GC.after s.book (graph_of s) (GC.make a k)
   unfolding graph_of
-  graph_made =
-      same_after s.book (raw_of s) (raw_of u) (raw_sound s S K) (raw_sound u U UK) (GC.make a k)
-      (let e = slots_length s S K in omega arith, kk) same
+  graph_made = grind (arith, same_after, raw_sound, U, UK, slots_length, same)
 
   -- the counts
   live_new : (x : ℕ) → mem x (objects t) ≡ true → name t (at + 1) ≡ number t x → lives t x ≡ true
@@ -142,10 +131,7 @@ module _ (s : State) (S : Sound s) (K : Known s) (a k : ℕ) (known : k < 16) (k
   charge_is = get_or-map (λ (q : Shape). 2 + q.fields) s.book k no_shape 0 kk
 
   still_going : 0 < due s → 0 < due u
-  still_going z =
-      by_bool (resting s.collector)
-      (λ e. let d = due_rest s e in absurd (omega arith))
-      (λ e. due_going u e)
+  still_going z = grind (arith, due_rest, due_going)
 
   pub make_accepted : Whole u × Accepted (meaning_of s) (GC.make a k) (meaning_of u)
   make_accepted =

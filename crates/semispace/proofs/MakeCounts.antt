@@ -1,5 +1,5 @@
 -- A record made: it is one more object, nothing leads from it, and what lived lives; so kept rises by its words at most, and due does not rise.
-use Rattle.std.proofs.Common.{◌≡◌, ℕ, ◌+◌, ◌-◌, ◌<◌, ◌≤◌, Bool, true, false, cond, not, ◌&&◌, ◌||◌, eqb, leb, ◌⊎◌, List, [], ◌∷◌, ◌++◌, map, length, get_or, take, sym, refl, ap, ◌∙◌, subst, inl, inr, arith}
+use Rattle.std.proofs.Common.{rules, ◌≡◌, ℕ, ◌+◌, ◌-◌, ◌<◌, ◌≤◌, Bool, true, false, cond, not, ◌&&◌, ◌||◌, eqb, leb, ◌⊎◌, List, [], ◌∷◌, ◌++◌, map, length, get_or, take, sym, refl, ap, ◌∙◌, subst, inl, inr, arith}
 use Rattle.std.proofs.lemmas.Bool.{and_parts, and_from, or_left, or_right, le-leb, eq-eqb, false≢true}
 use Rattle.semispace.specs.declared.collector.Collector.{Collector}
 use Rattle.semispace.specs.declared.collector.Collector.TheVariants.{Rest, Slots, Scan, Field}
@@ -55,19 +55,10 @@ module _ (s : State) (S : Sound s) (K : Known s) (k : ℕ) (known : k < 16) (kk 
 
   -- the objects: one more, among them
   pub at_object : mem at (objects t) ≡ true
-  at_object =
-      by_bool (resting s.collector)
-      (λ e. rw (objects_rest t e) (made_there s S k known fits))
-      (λ e. rw (objects_cycle t e, mades_m s S k known fits) (mem_right at (the_olds t) (at ∷ the_mades s) (mem_head at (the_mades s))))
+  at_object = grind (arith, objects_rest, made_there, objects_cycle, mades_m, mem_right, the_mades, mem_head)
 
   pub old_object : (x : ℕ) → mem x (objects s) ≡ true → mem x (objects t) ≡ true
-  old_object x m =
-      by_bool (resting s.collector)
-      (λ e. rw (objects_rest t e) (news_kept_m s S k known fits x (rw (objects_rest s e) at m)))
-      (λ e. elim (mem_append x (the_olds s) (the_mades s) (rw (objects_cycle s e) at m)) [
-        | inl d ↦ rw (objects_cycle t e) (mem_left x (the_olds t) (the_mades t) (rw (olds_m s S k known fits) d))
-        | inr d ↦ rw (objects_cycle t e, mades_m s S k known fits) (mem_right x (the_olds t) (at ∷ the_mades s) (or_right (eqb x at) (mem x (the_mades s)) d))
-      ])
+  old_object x m = grind (arith, objects_rest, news_kept_m, mem_append, the_mades, objects_cycle, mem_left, olds_m, mades_m, mem_right, or_right)
 
   record Split : Type 0 where
     pub front : List ℕ
@@ -116,22 +107,10 @@ module _ (s : State) (S : Sound s) (K : Known s) (k : ℕ) (known : k < 16) (kk 
       (λ e. rw e w)
 
   no_edge : (x : ℕ) → mem x (objects t) ≡ true → edge t at x ≡ true → ⊥
-  no_edge x m h =
-      let q = edge_found t at x h in
-      let l : q.0 < size_of t at - 2 = q.1 in
-      let z : shown t at q.0 ≡ 0 = shown_new q.0 (omega arith) in
-      let e : shown t at q.0 ≡ number t x = q.3 in
-      let p = some_number x m in
-      omega arith
+  no_edge x m h = search (rules, arith, edge_found, shown_new, some_number)
 
   edge_old : (y x : ℕ) → mem y (objects s) ≡ true → mem x (objects s) ≡ true → edge t y x ≡ true → edge s y x ≡ true
-  edge_old y x my mx h =
-      let q = edge_found t y x h in
-      let z : size_of t y ≡ size_of s y = size_m s S k known fits y (object_all s S k known fits y my) in
-      let l : q.0 < size_of t y - 2 = q.1 in
-      let l2 : 2 + q.0 < size_of s y = omega arith in
-      edge_from s y x q.0 l2 (subst (λ n. refers s.book n q.0 ≡ true) (kind2 s S K k known kk fits y my) q.2)
-      (sym (shown2 s S K k known kk fits y q.0 my l2) ∙ (q.3 ∙ number_old x mx))
+  edge_old y x my mx h = grind (arith, edge_found, size_m, object_all, edge_from, kind2, shown2, number_old)
 
   root_old : (x : ℕ) → mem x (objects s) ≡ true → root t x ≡ true → root s x ≡ true
   root_old x m h =
@@ -166,14 +145,7 @@ module _ (s : State) (S : Sound s) (K : Known s) (k : ℕ) (known : k < 16) (kk 
 
   pub kept_made : kept t ≤ kept s + (2 + fields_of s.book k)
   unfolding kept
-  kept_made =
-      let p = split in
-      let a : sum_where (lives t) (size_of t) (objects s) ≤ sum_where (lives s) (size_of s) (objects s) = sum_le (lives t) (lives s) (size_of t) (size_of s) (objects s) lives_old (λ x m. let e = sizes x m in omega arith) in
-      let b : sum_where (lives t) (size_of t) (objects t) ≡ cond (lives t at) (size_of t at) 0 + sum_where (lives t) (size_of t) (objects s) =
-      ap (sum_where (lives t) (size_of t)) p.after ∙ (sum_insert (lives t) (size_of t) p.front at p.back ∙ ap (λ xs. cond (lives t at) (size_of t at) 0 + sum_where (lives t) (size_of t) xs) (sym p.before)) in
-      let c = cond_most (lives t at) (size_of t at) in
-      let z = size_here s S k s.next known fits in
-      omega arith
+  kept_made = grind (arith, split, sum_le, lives_old, sizes, sum_insert, cond_most, size_here)
 
   opened_new : opened_record t at ≡ true
   opened_new =
@@ -186,12 +158,7 @@ module _ (s : State) (S : Sound s) (K : Known s) (k : ℕ) (known : k < 16) (kk 
       opened_from t w.0 x (news_kept_m s S k known fits w.0 w.1) (news_number w.0 w.1 ∙ (w.2 ∙ sym (number_old x m))) (opened_m s S k known fits w.0 w.1 ∙ w.3)
 
   left_old : (x : ℕ) → mem x (objects s) ≡ true → (lives t x && not (opened_record t x)) ≡ true → (lives s x && not (opened_record s x)) ≡ true
-  left_old x m h =
-      let u = and_parts (lives t x) (not (opened_record t x)) h in
-      and_from (lives s x) (not (opened_record s x)) (lives_old x m u.0)
-      (by_bool (opened_record s x)
-      (λ e. absurd (false≢true (let v : not true ≡ true = subst (λ b. not b ≡ true) (opened_old x m e) u.1 in v)))
-      (λ e. rw e))
+  left_old x m h = grind (arith, and_parts, and_from, lives_old, opened_old)
 
   pub pending_made : pending t ≤ pending s
   unfolding pending
@@ -217,8 +184,4 @@ module _ (s : State) (S : Sound s) (K : Known s) (k : ℕ) (known : k < 16) (kk 
   left_same (Field c) h = let e : size_of t c.at ≡ size_of s c.at = size_m s S k known fits c.at (mem_left c.at (the_news s) (the_olds s) (mem_left c.at (the_places s) (the_mades s) h.0)) in ap (λ n. 0 + (n - 2 - c.field)) e
 
   pub due_made : due t ≤ due s
-  due_made =
-      let p = pending_made in
-      by_bool (resting s.collector)
-      (λ e. let a = due_rest t e in omega arith)
-      (λ e. let a = due_is t e in let b = due_is s e in let c = left_same s.collector S.at in omega arith)
+  due_made = grind (arith, pending_made, due_rest, due_is, left_same)

@@ -1,5 +1,5 @@
 -- A made record in the graph.
-use Rattle.std.proofs.Common.{◌≡◌, ℕ, ◌+◌, ◌-◌, ◌/◌, ◌%◌, ◌<◌, ◌≤◌, true, false, cond, eqb, leb, ◌≢◌, List, length, sym, refl, ap, ◌∙◌, inl, inr, arith}
+use Rattle.std.proofs.Common.{◌≡◌, ℕ, ◌+◌, ◌-◌, ◌/◌, ◌%◌, ◌<◌, ◌≤◌, true, false, cond, eqb, ◌≢◌, List, length, sym, refl, ap, ◌∙◌, inl, inr, arith}
 use Rattle.std.proofs.lemmas.Bool.{eqb-false, or_left, le-leb, eq-eqb, cases_eq}
 use Rattle.semispace.specs.Layout.{mem}
 use Rattle.semispace.specs.Words.{home, State, own, resting, refers, kind_at, place_of, word_at, made_at, fields_of}
@@ -71,12 +71,7 @@ module _ (s : State) (S : Sound s) (K : Known s) (k : ℕ) (known : k < 16) (kk 
       member xs g z = elim (good_cases xs r g) [ inl d ↦ absurd (z d) | inr d ↦ d.1 ]
 
   home_made : (x n : ℕ) → mem x (the_mades s) ≡ true → home t x n ≡ home s x n
-  home_made x n m =
-      let kn : mem x (the_news s) ≡ true = mem_right x (the_places s) (the_mades s) m in
-      let o : own s.halves s.collector x n ≡ true = or_left (leb (s.halves.base + s.halves.high) x) _ (le-leb (s.halves.base + s.halves.high) x (mades_inside _ _ _ S.laid x m).0) in
-      let ht : home t x n ≡ x = rw (new_leads s S.laid x kn, own_m s S k known fits x n kn, o) in
-      let hs : home s x n ≡ x = rw (new_leads s S.laid x kn, o) in
-      ht ∙ sym hs
+  home_made x n m = grind (arith, mem_right, the_mades, or_left, le-leb, mades_inside, new_leads, own_m)
 
   home2 : (x n : ℕ) → mem x (objects s) ≡ true → home t x n ≡ home s x n
   home2 x n m =

@@ -1,5 +1,5 @@
 -- A make keeps the invariant.
-use Rattle.std.proofs.Common.{◌≡◌, ℕ, ◌+◌, ◌-◌, ◌/◌, ◌%◌, ◌<◌, ◌≤◌, true, false, ◌&&◌, ◌||◌, eqb, ltb, leb, ◌⊎◌, ◌∷◌, ◌++◌, length, get_or, set, sym, ap, ◌∙◌, subst, ap₂, inl, inr, add_assoc, arith}
+use Rattle.std.proofs.Common.{rules, ◌≡◌, ℕ, ◌+◌, ◌-◌, ◌/◌, ◌%◌, ◌<◌, ◌≤◌, true, false, ◌&&◌, ◌||◌, eqb, ltb, leb, ◌⊎◌, ◌∷◌, ◌++◌, length, get_or, set, sym, ap, ◌∙◌, subst, ap₂, inl, inr, add_assoc, arith}
 use Rattle.std.proofs.lemmas.List.{length-set}
 use Rattle.std.proofs.lemmas.Bool.{or_right, lt-leb, le-leb}
 use Rattle.semispace.specs.declared.collector.Collector.{Collector}
@@ -65,18 +65,10 @@ module _ (s : State) (S : Sound s) (k : ℕ) (known : k < 16) (fits : 2 + fields
   of_places x m = of_news x (mem_left x (the_places s) (the_mades s) m)
 
   pub news_cases_m : (x : ℕ) → mem x (the_news t) ≡ true → (x ≡ at) ⊎ (mem x (the_news s) ≡ true)
-  news_cases_m x m =
-      elim (mem_append x (the_places t) (the_mades t) m) [
-        | inl e ↦ inr (mem_left x (the_places s) (the_mades s) (rw places_m at e))
-        | inr e ↦ elim (mem_cases x at (the_mades s) (rw mades_m at e)) [ inl d ↦ inl d | inr d ↦ inr (mem_right x (the_places s) (the_mades s) d) ]
-      ]
+  news_cases_m x m = search (rules, arith, mem_append, the_mades, mem_left, places_m, mem_cases, mades_m, mem_right)
 
   pub news_kept_m : (x : ℕ) → mem x (the_news s) ≡ true → mem x (the_news t) ≡ true
-  news_kept_m x m =
-      rw (places_m, mades_m) (elim (mem_append x (the_places s) (the_mades s) m) [
-        | inl e ↦ mem_left x (the_places s) (at ∷ the_mades s) e
-        | inr e ↦ mem_right x (the_places s) (at ∷ the_mades s) (or_right (eqb x at) (mem x (the_mades s)) e)
-      ])
+  news_kept_m x m = grind (arith, places_m, mades_m, mem_append, the_mades, mem_left, mem_right, or_right)
 
   pub made_there : mem at (the_news t) ≡ true
   made_there = rw (places_m, mades_m) (mem_right at (the_places s) (at ∷ the_mades s) (mem_head at (the_mades s)))
@@ -86,12 +78,7 @@ module _ (s : State) (S : Sound s) (k : ℕ) (known : k < 16) (fits : 2 + fields
 
   -- the high end has come down, but not to a place
   top_m : (x : ℕ) → mem x (the_news s) ≡ true → leb (s.halves.base + (s.halves.high - len)) x ≡ leb (s.halves.base + s.halves.high) x
-  top_m x m =
-      let r = room in
-      elim (mem_append x (the_places s) (the_mades s) m) [
-        | inl e ↦ let i = places_inside _ _ _ S.laid x e in let z = size_two s.book s.memory x in lt-leb (s.halves.base + (s.halves.high - len)) x (omega arith) ∙ sym (lt-leb (s.halves.base + s.halves.high) x (omega arith))
-        | inr e ↦ let i = mades_inside _ _ _ S.laid x e in le-leb (s.halves.base + (s.halves.high - len)) x (omega arith) ∙ sym (le-leb (s.halves.base + s.halves.high) x i.0)
-      ]
+  top_m x m = grind (arith, room, mem_append, the_mades, places_inside, size_two, lt-leb, mades_inside, le-leb)
 
   pub opened_m : (x : ℕ) → mem x (the_news s) ≡ true → opened_at t.halves s.collector x ≡ opened_at s.halves s.collector x
   opened_m x m = ap (λ b. b || (ltb x (front s.halves.base s.halves.size s.collector) || (eqb x (front s.halves.base s.halves.size s.collector) && is_open s.collector))) (top_m x m)
@@ -172,13 +159,7 @@ module _ (s : State) (S : Sound s) (k : ℕ) (known : k < 16) (fits : 2 + fields
 
   -- the objects, and what is known of them
   pub objects_m : (x : ℕ) → mem x (objects t) ≡ true → (x ≡ at) ⊎ (mem x (objects s) ≡ true)
-  objects_m x m =
-      by_bool (resting s.collector)
-      (λ e. elim (news_cases_m x (rw (objects_rest t e) at m)) [ inl d ↦ inl d | inr d ↦ inr (rw (objects_rest s e) d) ])
-      (λ e. elim (mem_append x (the_olds t) (the_mades t) (rw (objects_cycle t e) at m)) [
-        | inl d ↦ inr (rw (objects_cycle s e) (mem_left x (the_olds s) (the_mades s) (rw olds_m at d)))
-        | inr d ↦ elim (mem_cases x at (the_mades s) (rw mades_m at d)) [ inl c ↦ inl c | inr c ↦ inr (rw (objects_cycle s e) (mem_right x (the_olds s) (the_mades s) c)) ]
-      ])
+  objects_m x m = search (rules, arith, news_cases_m, objects_rest, mem_append, the_mades, objects_cycle, mem_left, olds_m, mem_cases, mades_m, mem_right)
 
   pub object_all : (x : ℕ) → mem x (objects s) ≡ true → mem x (all s) ≡ true
   object_all x m = by_bool (resting s.collector) (λ e. of_news x (rw (objects_rest s e) at m)) (λ e. objs_all s x (rw (objects_cycle s e) at m))

@@ -5,7 +5,7 @@ use Rattle.std.proofs.lemmas.Bool.{lt-ltb, le-ltb}
 use Rattle.kinds.specs.Shapes.{Shape}
 use Rattle.graph.specs.Graph.{size}
 use Rattle.semispace.specs.Layout.{size_at, mem, starts, total, lows, highs, Laid}
-use Rattle.semispace.specs.Words.{State, resting, word_at, fresh, made_at, made_record, fields_of}
+use Rattle.semispace.specs.Words.{State, word_at, fresh, made_at, made_record, fields_of}
 use Rattle.semispace.specs.Sound.{the_olds, the_news, the_places, size_of, Sound}
 use Rattle.semispace.proofs.Spreads.{by_bool, starts_same, total_same, mem_append, mem_left, mem_right, total_append, size_two, placed_within}
 use Rattle.semispace.proofs.Reserving.{places_inside, mades_inside, olds_inside, side_cases}
@@ -26,18 +26,7 @@ starts_enough b m (suc f) a to l =
 
 -- There is room for what the spare allows.
 pub make_room : (s : State) → Sound s → s.halves.low + s.spare ≤ s.halves.high
-make_room s S =
-    by_bool (resting s.collector)
-    (λ r. let a = S.rest r in omega arith)
-    (λ r.
-    let w = placed_within s.book s.memory (the_olds s) in
-    let m = (S.cycle r).sum in
-    let q = (S.cycle r).room in
-    let t = total_append s.book s.memory (lows s.book s.memory s.halves) (highs s.book s.memory s.halves) in
-    let l1 = S.laid.lows_fill in
-    let l2 = S.laid.highs_fill in
-    let ot = S.laid.old_top in
-    omega arith)
+make_room s S = grind (arith, placed_within, total_append)
 
 module _ (s : State) (S : Sound s) (k n : ℕ) (known : k < 16) (fits : 2 + fields_of s.book k ≤ s.spare) where
   abbrev at : ℕ
@@ -59,20 +48,13 @@ module _ (s : State) (S : Sound s) (k n : ℕ) (known : k < 16) (fits : 2 + fiel
   at_inside = let r = at_end in let f = S.laid.fits in let t = S.laid.top in elim (side_cases _ _ _ S.laid) [ inl e ↦ omega arith | inr e ↦ omega arith ]
 
   pub made_other : (x : ℕ) → (x < at) ⊎ (at + len ≤ x) → word_at after x ≡ word_at s x
-  made_other x h =
-      elim h [ inl p ↦ cleared_under (fresh s.memory at n k) (at + 2) (fields_of s.book k) x (omega arith) | inr p ↦ cleared_over (fresh s.memory at n k) (at + 2) (fields_of s.book k) x (omega arith) ] ∙
-      (get_or-set_other (set s.memory at n) (at + 1) x k 0 (λ e. elim h [ inl p ↦ omega arith | inr p ↦ omega arith ]) ∙
-      get_or-set_other s.memory at x n 0 (λ e. elim h [ inl p ↦ omega arith | inr p ↦ omega arith ]))
+  made_other x h = grind (arith, cleared_under, cleared_over, get_or-set_other)
 
   pub made_number : word_at after at ≡ n
-  made_number =
-      cleared_under (fresh s.memory at n k) (at + 2) (fields_of s.book k) at (omega arith) ∙
-      (get_or-set_other (set s.memory at n) (at + 1) at k 0 (omega arith) ∙ get_or-set_same s.memory at n 0 (let i = at_inside in omega arith))
+  made_number = grind (arith, cleared_under, get_or-set_other, get_or-set_same, at_inside)
 
   pub made_tag : word_at after (at + 1) ≡ k
-  made_tag =
-      cleared_under (fresh s.memory at n k) (at + 2) (fields_of s.book k) (at + 1) (omega arith) ∙
-      get_or-set_same (set s.memory at n) (at + 1) k 0 (let i = at_inside in let z = length-set s.memory at n in omega arith)
+  made_tag = grind (arith, cleared_under, get_or-set_same, at_inside, length-set)
 
   pub made_field : (j : ℕ) → 2 + j < len → word_at after (at + (2 + j)) ≡ 0
   made_field j l =
@@ -84,17 +66,7 @@ module _ (s : State) (S : Sound s) (k n : ℕ) (known : k < 16) (fits : 2 + fiel
 
   -- words of records are as before
   pub made_word : (x j : ℕ) → mem x (all s) ≡ true → j < size_of s x → word_at after (x + j) ≡ word_at s (x + j)
-  made_word x j m l =
-      let r = room in
-      let e = at_end in
-      made_other (x + j)
-      (elim (mem_append x (the_news s) (the_olds s) m) [
-        | inl a ↦ elim (mem_append x (the_places s) (the_mades s) a) [
-          | inl b ↦ let i = places_inside _ _ _ S.laid x b in inl (omega arith)
-          | inr b ↦ let i = mades_inside _ _ _ S.laid x b in inr (omega arith)
-        ]
-        | inr a ↦ let i = olds_inside _ _ _ S.laid x a in let t = S.laid.top in elim (side_cases _ _ _ S.laid) [ inl d ↦ inr (omega arith) | inr d ↦ inl (omega arith) ]
-      ])
+  made_word x j m l = grind (arith, room, at_end, made_other, mem_append, the_mades, places_inside, mades_inside, olds_inside, side_cases)
 
   pub made_size : (x : ℕ) → mem x (all s) ≡ true → size_of after x ≡ size_of s x
   unfolding size_at
@@ -161,9 +133,4 @@ module _ (s : State) (S : Sound s) (k n : ℕ) (known : k < 16) (fits : 2 + fiel
       }
     where
       fill_mades : the_mades after ≡ at ∷ the_mades s → total s.book after.memory (the_mades s) ≡ total s.book s.memory (the_mades s) → s.halves.base + (s.halves.high - len) + total s.book after.memory (the_mades after) ≡ s.halves.base + s.halves.size
-      fill_mades q tm =
-          let e : total s.book after.memory (the_mades after) ≡ size_of after at + total s.book after.memory (the_mades s) = ap (total s.book after.memory) q in
-          let r = room in
-          let z = size_here in
-          let mf = S.laid.mades_fill in
-          omega arith
+      fill_mades q tm = grind (arith, the_mades, room, size_here)

@@ -1,5 +1,5 @@
 -- Opening a place keeps the invariant.
-use Rattle.std.proofs.Common.{◌≡◌, ℕ, ◌+◌, ◌-◌, ◌/◌, ◌%◌, ◌<◌, ◌≤◌, true, false, ◌&&◌, ◌||◌, eqb, ltb, leb, ◌≢◌, ◌⊎◌, [], ◌∷◌, sym, refl, ap, ◌∙◌, subst, inl, inr, add_assoc, arith}
+use Rattle.std.proofs.Common.{rules, ◌≡◌, ℕ, ◌+◌, ◌-◌, ◌/◌, ◌%◌, ◌<◌, ◌≤◌, true, false, ltb, ◌≢◌, ◌⊎◌, sym, ap, ◌∙◌, subst, inl, inr, add_assoc, arith}
 use Rattle.std.proofs.lemmas.List.{length-set}
 use Rattle.std.proofs.lemmas.Bool.{or_from, and_right, ltb-true, lt-leb, le-ltb, cases_eq, cases_order, false≢true}
 use Rattle.semispace.specs.declared.collector.Collector.{Collector}
@@ -16,21 +16,13 @@ module _ (s : State) (S : Sound s) (at : ℕ) (is : s.collector ≡ Scan at) (mo
   going = rw is
 
   pub at_in : mem at (the_places s) ≡ true
-  at_in =
-      let P : Collector → Type 0 = λ c. At s c in
-      elim (mem_append at (the_places s) (next_place s ∷ []) (subst P is S.at)) [
-        | inl e ↦ e
-        | inr e ↦ elim (mem_cases at (next_place s) [] e) [ inl d ↦ absurd (omega (arith, ltb-true at (next_place s) more)) | inr d ↦ absurd (false≢true d) ]
-      ]
+  at_in = search (rules, arith, mem_append, mem_cases, ltb-true)
 
   in_all : mem at (all s) ≡ true
   in_all = mem_left at (the_news s) (the_olds s) (mem_left at (the_places s) (mades s.book s.memory s.halves) at_in)
 
   shut : opened_at s.halves s.collector at ≡ false
-  shut =
-      let l = ltb-true at (next_place s) more in
-      rw is (or_from (leb (s.halves.base + s.halves.high) at) (ltb at at || (eqb at at && false)) (lt-leb (s.halves.base + s.halves.high) at (omega (arith, S.laid.ends)))
-      (or_from (ltb at at) (eqb at at && false) (le-ltb at at (omega arith)) (and_right (eqb at at) false refl)))
+  shut = grind (arith, ltb-true, or_from, lt-leb, le-ltb, and_right)
 
   pub from_old : (0 < word_at s at) × (mem (word_at s at - 1) (the_olds s) ≡ true) × (place_of s (word_at s at - 1) ≡ at + 1)
   from_old = (S.cycle going).back at at_in shut
@@ -82,11 +74,7 @@ module _ (s : State) (S : Sound s) (at : ℕ) (is : s.collector ≡ Scan at) (mo
       word_o x n m q = rw (add_assoc x 2 n) (put_other s S.laid at 0 num in_all p0 no_tag x (2 + n) m q (λ d. omega (arith, d.1)))
 
       head_o : (x : ℕ) → mem x (all s) ≡ true → x ≢ at → word_at after x ≡ word_at s x
-      head_o x m ne =
-          let v = put_other s S.laid at 0 num in_all p0 no_tag x 0 m (omega (arith, size_two s.book s.memory x)) (λ d. ne d.0) in
-          let e : x + 0 ≡ x = omega arith in
-          let w : word_at after (x + 0) ≡ word_at s (x + 0) = v in
-          rw e at w
+      head_o x m ne = search (rules, arith, put_other, in_all, p0, no_tag, size_two)
 
       head_here : word_at after at ≡ num
       head_here = let v = put_same s S.laid at 0 num in_all p0 no_tag in let e : at + 0 ≡ at = omega arith in let P : ℕ → Type 0 = λ y. word_at after y ≡ num in subst P e v

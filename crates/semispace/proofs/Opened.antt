@@ -1,9 +1,9 @@
 -- Openings, good and bad: the state is whole, and what it means.
-use Rattle.std.proofs.Common.{◌≡◌, ℕ, ◌+◌, ◌/◌, ◌<◌, ◌≤◌, Bool, true, false, cond, ◌||◌, eqb, ltb, List, length, replicate, sym, refl, ap, subst, zero-le, arith}
+use Rattle.std.proofs.Common.{rules, ◌≡◌, ℕ, ◌+◌, ◌/◌, ◌<◌, ◌≤◌, Bool, true, false, cond, ◌||◌, eqb, ltb, List, length, refl, zero-le, arith}
 use Rattle.std.proofs.lemmas.Bool.{or_parts, ltb-false, eqb-false, ne_eqb, cond-false}
 use Rattle.std.proofs.lemmas.List.{length-replicate}
 use Rattle.kinds.specs.Shapes.{Shape}
-use Rattle.graph.specs.Meaning.{Opened, headed_charges}
+use Rattle.graph.specs.Meaning.{Opened}
 use Rattle.semispace.specs.Words.{State}
 use Rattle.semispace.specs.Graphs.{Whole}
 use Rattle.semispace.specs.Collected.{meaning_of}
@@ -61,14 +61,7 @@ module _ (memory : List ℕ) (slots : ℕ) (book : List Shape) (first : ℕ) whe
       record { sound = opening_sound memory half count book first z.fits z.small z.few; known = opening_known memory half count book first z.fits z.small z.few z.numbered }
 
   pub opened_means : meaning_of s ≡ opened_meaning (length memory) slots book first
-  opened_means =
-      let z = sized (length memory) slots first in
-      let g = opening_graph memory half count book first z.fits z.small z.few in
-      let k = opening_kept memory half count book first z.fits z.small z.few in
-      let d = opening_due memory half count book first z.fits z.small z.few in
-      λ i. record { graph = g i; book = book; charges = headed_charges book; capacity = half; fixed = 2 + count; spare = half; due = d i; kept = k i }
+  opened_means = grind (arith, sized, opening_graph, opening_kept, opening_due)
 
   pub opened_opened : Opened first (meaning_of s)
-  opened_opened =
-      subst (Opened first) (sym opened_means)
-      (record { slots = ap (λ n. replicate n 0) (sym (length-replicate count 0)); records = refl; next = refl; spare = refl; due = refl })
+  opened_opened = search (rules, arith, opened_means, length-replicate)

@@ -1,5 +1,5 @@
 -- A heap just opened: its state keeps the invariant, and it means an empty graph.
-use Rattle.std.proofs.Common.{◌≡◌, ℕ, zero, suc, ◌+◌, ◌-◌, ◌<◌, ◌≤◌, true, eqb, List, [], ◌∷◌, ◌++◌, map, length, get_or, take, replicate, refl, ap, ◌∙◌, ap₂, arith}
+use Rattle.std.proofs.Common.{rules, ◌≡◌, ℕ, zero, suc, ◌+◌, ◌-◌, ◌<◌, ◌≤◌, true, eqb, List, [], ◌∷◌, ◌++◌, map, length, get_or, replicate, refl, ap, ◌∙◌, ap₂, arith}
 use Rattle.std.proofs.lemmas.List.{get_or-replicate, take-replicate}
 use Rattle.std.proofs.lemmas.Bool.{or_left, true≢false, false≢true}
 use Rattle.kinds.specs.Shapes.{Shape}
@@ -10,7 +10,7 @@ use Rattle.semispace.specs.Words.{State}
 use Rattle.semispace.specs.Reach.{sum_where}
 use Rattle.semispace.specs.Sound.{the_news, size_of, name, Sound}
 use Rattle.semispace.specs.Dues.{objects, lives, kept, due}
-use Rattle.semispace.specs.Graphs.{record_of, raw_of, graph_of, Known}
+use Rattle.semispace.specs.Graphs.{raw_of, graph_of, Known}
 use Rattle.semispace.proofs.Spreads.{starts_none}
 use Rattle.semispace.proofs.SlotSound.{good_none}
 use Rattle.semispace.proofs.Knowing.{objects_rest}
@@ -50,31 +50,17 @@ module _ (m : List ℕ) (h : ℕ) (count : ℕ) (b : List Shape) (first : ℕ) (
   }
 
   none : (a : ℕ) → mem a (objects (opening m h count b first)) ≡ true → ⊥
-  none a k =
-      let s = opening m h count b first in
-      let k1 : mem a (the_news s) ≡ true = rw (objects_rest s refl) at k in
-      let z : mem a [] ≡ true = rw no_news at k1 in
-      false≢true z
+  none a k = search (rules, arith, objects_rest, no_news)
 
   pub opening_known : (0 < count → 0 < first) → Known (opening m h count b first)
-  opening_known l = record {
-    first = l;
-    apart = λ a c k j e. absurd (none a k);
-    given = λ a k. absurd (none a k);
-    kinds = λ a k. absurd (none a k);
-    sourced = λ r. absurd (true≢false r);
-  }
+  opening_known l = search (rules, arith, none)
 
   no_objects : objects (opening m h count b first) ≡ []
   no_objects = objects_rest (opening m h count b first) refl ∙ no_news
 
   pub opening_graph : graph_of (opening m h count b first) ≡ record { slots = replicate count 0; next = first; records = [] }
   unfolding graph_of raw_of prune sort
-  opening_graph =
-      let s = opening m h count b first in
-      let e : map (name s) (take count (replicate 64 0)) ≡ replicate count 0 = ap (map (name s)) (take-replicate count 64 0 few) ∙ names_zero s count in
-      let f : (xs : List ℕ) → prune b (record { slots = xs; next = first; records = map (record_of s) (objects s) }) ≡ record { slots = xs; next = first; records = [] } = λ xs. ap (λ ps. prune b (record { slots = xs; next = first; records = map (record_of s) ps })) no_objects in
-      f (map (name s) (take count (replicate 64 0))) ∙ ap (λ xs. record { slots = xs; next = first; records = [] }) e
+  opening_graph = search (rules, arith, take-replicate, names_zero, no_objects)
 
   pub opening_kept : kept (opening m h count b first) ≡ 0
   unfolding kept

@@ -133,10 +133,7 @@ module _ (s : State) (S : Sound s) (K : Known s) where
     at_all = mem_left at (the_news s) (the_olds s) at_new
 
     closed_at : opened_at s.halves s.collector at ≡ false
-    closed_at =
-        let l = ltb-true at (next_place s) more in
-        rw is (or_from (leb (s.halves.base + s.halves.high) at) (ltb at at || (eqb at at && false)) (lt-leb (s.halves.base + s.halves.high) at (omega (arith, S.laid.ends)))
-        (or_from (ltb at at) (eqb at at && false) (le-ltb at at (omega arith)) (and_right (eqb at at) false refl)))
+    closed_at = grind (arith, ltb-true, or_from, lt-leb, le-ltb, and_right)
 
     abbrev o : ℕ
     o = word_at s at - 1

@@ -1,5 +1,5 @@
 -- One word of a record is written: what else stays.
-use Rattle.std.proofs.Common.{◌≡◌, ℕ, ◌+◌, ◌%◌, ◌<◌, ◌≤◌, true, ◌≢◌, List, ◌++◌, sym, ap, ap₂, inl, inr, arith}
+use Rattle.std.proofs.Common.{rules, ◌≡◌, ℕ, ◌+◌, ◌%◌, ◌<◌, ◌≤◌, true, ◌≢◌, List, ◌++◌, sym, ap, ap₂, inl, inr, arith}
 use Rattle.std.proofs.lemmas.List.{get_or-set_same, get_or-set_other, length-set}
 use Rattle.std.proofs.lemmas.Bool.{cases_eq}
 use Rattle.graph.specs.Graph.{size}
@@ -13,11 +13,7 @@ abbrev pub all : State → List ℕ
 all s = the_news s ++ the_olds s
 
 pub news_inside : (s : State) (l : Laid s.book s.memory s.halves) (x : ℕ) → mem x (the_news s) ≡ true → (s.halves.base ≤ x) × (x + size_of s x ≤ s.halves.base + s.halves.size)
-news_inside s l x k =
-    elim (mem_append x (the_places s) _ k) [
-      | inl e ↦ omega (arith, places_inside _ _ _ l x e, l.ends, l.top)
-      | inr e ↦ omega (arith, mades_inside _ _ _ l x e)
-    ]
+news_inside s l x k = search (rules, arith, mem_append, places_inside, mades_inside)
 
 -- words of different records are different words
 pub apart : (s : State) (l : Laid s.book s.memory s.halves) (x y i j : ℕ) → mem x (all s) ≡ true → mem y (all s) ≡ true → i < size_of s x → j < size_of s y → x ≢ y → x + i ≢ y + j
@@ -34,12 +30,7 @@ apart s l x y i j kx ky p q ne =
     ]
 
 pub all_inside : (s : State) (l : Laid s.book s.memory s.halves) (x j : ℕ) → mem x (all s) ≡ true → j < size_of s x → x + j < both_halves s
-all_inside s l x j k p =
-    let f = l.fits in
-    elim (mem_append x (the_news s) (the_olds s) k) [
-      | inl a ↦ let u = news_inside s l x a in elim (side_cases _ _ _ l) [ inl e ↦ omega arith | inr e ↦ omega arith ]
-      | inr a ↦ let v = olds_inside _ _ _ l x a in elim (side_cases _ _ _ l) [ inl e ↦ omega arith | inr e ↦ omega arith ]
-    ]
+all_inside s l x j k p = grind (arith, mem_append, news_inside, side_cases, olds_inside)
 
 -- A word of a record is written that is not its tag.
 module _ (s : State) (l : Laid s.book s.memory s.halves) (a j w : ℕ) (k : mem a (all s) ≡ true) (p : j < size_of s a) (untagged : j ≢ 1) where
@@ -89,15 +80,4 @@ module _ (s : State) (l : Laid s.book s.memory s.halves) (a j w : ℕ) (k : mem 
   news_put = ap₂ (λ xs ys. xs ++ ys) places_put mades_put
 
   pub laid_put : Laid s.book (put_at s (a + j) w).memory s.halves
-  laid_put = record {
-    fits = rw (length-set s.memory (a + j) w) l.fits;
-    side = l.side;
-    ends = l.ends;
-    top = l.top;
-    old_ends = l.old_ends;
-    old_top = l.old_top;
-    lows_fill = rw (lows_put, total_same s.book s.memory (put_at s (a + j) w).memory _ (λ x m. put_size x (in_lows x m))) l.lows_fill;
-    highs_fill = rw (highs_put, total_same s.book s.memory (put_at s (a + j) w).memory _ (λ x m. put_size x (in_highs x m))) l.highs_fill;
-    places_fill = rw (places_put, total_same s.book s.memory (put_at s (a + j) w).memory _ (λ x m. put_size x (in_places x m))) l.places_fill;
-    mades_fill = rw (mades_put, total_same s.book s.memory (put_at s (a + j) w).memory _ (λ x m. put_size x (in_mades x m))) l.mades_fill;
-  }
+  laid_put = search (rules, arith, length-set, lows_put, total_same, put_size, in_lows, highs_put, in_highs, places_put, in_places, mades_put, in_mades)

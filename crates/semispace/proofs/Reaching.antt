@@ -1,5 +1,5 @@
 -- Reaching by rounds over lists of addresses, and sums over what is reached.
-use Rattle.std.proofs.Common.{◌≡◌, ℕ, zero, suc, ◌+◌, ◌<◌, ◌≤◌, Bool, true, false, cond, not, ◌&&◌, ◌||◌, ◌⊎◌, List, [], ◌∷◌, length, inl, inr, arith}
+use Rattle.std.proofs.Common.{rules, ◌≡◌, ℕ, zero, suc, ◌+◌, ◌<◌, ◌≤◌, Bool, true, false, cond, not, ◌&&◌, ◌||◌, ◌⊎◌, List, [], ◌∷◌, length, inl, inr, arith}
 use Rattle.std.proofs.lemmas.Bool.{or_cases, or_left, or_right, and_from, and_parts, or_parts, not-false, false≢true}
 use Rattle.semispace.specs.Layout.{mem}
 use Rattle.semispace.specs.Reach.{some, reach_in, reached}
@@ -71,13 +71,7 @@ module _ (u : List ℕ) (e : ℕ → ℕ → Bool) (r : ℕ → Bool) where
 
   stable_up : (k : ℕ) → Stable k → Stable (suc k)
   unfolding reach_in
-  stable_up k s x m h =
-      elim (or_cases (reach_in u e r (suc k) x) _ h) [
-        | inl d ↦ d
-        | inr d ↦ let w = some_is (λ z. reach_in u e r (suc k) z && e z x) u d in
-            let v = and_parts _ _ w.2 in
-            reach_step k w.0 x w.1 (s w.0 w.1 v.0) v.1
-      ]
+  stable_up k s x m h = search (rules, arith, or_cases, some_is, and_parts, reach_step)
 
   stable_or_many : (k : ℕ) → Stable k ⊎ (k ≤ count (reach_in u e r k) u)
   stable_or_many zero = inr (omega arith)

@@ -1,6 +1,6 @@
 -- Which half an address leads into.
-use Rattle.std.proofs.Common.{◌≡◌, ℕ, ◌+◌, ◌-◌, ◌/◌, true, false, cond, eqb, sym, ap, ◌∙◌, inl, inr, arith}
-use Rattle.std.proofs.lemmas.Bool.{and_left, and_right, lt-leb, le-leb, lt-ltb, and_from, or_parts, le-ltb, ne_eqb, cases_eq, false≢true}
+use Rattle.std.proofs.Common.{rules, ◌≡◌, ℕ, ◌+◌, ◌-◌, ◌/◌, true, false, cond, eqb, ap, ◌∙◌, inl, inr, arith}
+use Rattle.std.proofs.lemmas.Bool.{and_left, and_right, lt-leb, le-leb, lt-ltb, and_from, or_parts, le-ltb, ne_eqb, cases_eq}
 use Rattle.semispace.specs.declared.collector.Collector.{Collector}
 use Rattle.semispace.specs.declared.collector.Collector.TheVariants.{Rest, Slots, Scan, Field}
 use Rattle.semispace.specs.Layout.{mem, Laid}
@@ -12,29 +12,14 @@ use Rattle.semispace.proofs.ReserveSound.{noted_state, room_for, unopened, not_o
 
 module _ (s : State) (l : Laid s.book s.memory s.halves) where
   pub new_leads : (x : ℕ) → mem x (the_news s) ≡ true → leads_new s.halves (x + 1) ≡ true
-  new_leads x k =
-      let t = size_two s.book s.memory x in
-      elim (mem_append x (the_places s) _ k) [
-        | inl e ↦ let i = places_inside _ _ _ l x e in and_from _ _ (lt-ltb s.halves.base (x + 1) (omega arith)) (le-leb (x + 1 - s.halves.base) s.halves.size (omega (arith, l.ends, l.top)))
-        | inr e ↦ let i = mades_inside _ _ _ l x e in and_from _ _ (lt-ltb s.halves.base (x + 1) (omega arith)) (le-leb (x + 1 - s.halves.base) s.halves.size (omega arith))
-      ]
+  new_leads x k = grind (arith, size_two, mem_append, places_inside, and_from, lt-ltb, le-leb, mades_inside)
 
   pub old_leads_not : (x : ℕ) → mem x (the_olds s) ≡ true → leads_new s.halves (x + 1) ≡ false
-  old_leads_not x k =
-      let t = size_two s.book s.memory x in
-      let i = olds_inside _ _ _ l x k in
-      elim (side_cases _ _ _ l) [
-        | inl e ↦ and_right _ _ (lt-leb (x + 1 - s.halves.base) s.halves.size (omega arith))
-        | inr e ↦ and_left _ _ (le-ltb s.halves.base (x + 1) (omega arith))
-      ]
+  old_leads_not x k = grind (arith, size_two, olds_inside, side_cases, and_right, lt-leb, and_left, le-ltb)
 
 module _ (s : State) (S : Sound s) (going : resting s.collector ≡ false) (o : ℕ) (is_old : mem o (the_olds s) ≡ true) (none : place_of s o ≡ 0) where
   unopened_place : (x : ℕ) → mem x (the_news s) ≡ true → opened_at s.halves s.collector x ≡ false → mem x (the_places s) ≡ true
-  unopened_place x k u =
-      elim (mem_append x (the_places s) _ k) [
-        | inl e ↦ e
-        | inr e ↦ absurd (false≢true (sym (or_parts _ _ u).0 ∙ le-leb (s.halves.base + s.halves.high) x (mades_inside _ _ _ S.laid x e).0))
-      ]
+  unopened_place x k u = search (rules, arith, mem_append, or_parts, le-leb, mades_inside)
 
   pub number_news : (x : ℕ) → mem x (the_news s) ≡ true → number (noted_state s o) x ≡ number s x
   unfolding number

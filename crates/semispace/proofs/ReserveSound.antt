@@ -1,12 +1,12 @@
 -- Reserving a place keeps the invariant.
-use Rattle.std.proofs.Common.{◌≡◌, ℕ, ◌+◌, ◌-◌, ◌*◌, ◌/◌, ◌%◌, ◌<◌, ◌≤◌, true, false, ◌&&◌, eqb, ltb, ◌≢◌, ◌⊎◌, List, [], ◌∷◌, ◌++◌, sym, refl, ap, ◌∙◌, subst, ap₂, inl, inr, add_assoc, arith}
+use Rattle.std.proofs.Common.{rules, ◌≡◌, ℕ, ◌+◌, ◌-◌, ◌*◌, ◌/◌, ◌%◌, ◌<◌, ◌≤◌, true, false, ◌&&◌, eqb, ltb, ◌≢◌, ◌⊎◌, List, [], ◌∷◌, ◌++◌, sym, refl, ap, ◌∙◌, subst, ap₂, inl, inr, add_assoc, arith}
 use Rattle.std.proofs.lemmas.Bool.{or_cases, or_from, or_left, or_right, and_left, and_right, lt-leb, le-ltb, ne_eqb, cases_eq, true≢false, false≢true}
 use Rattle.semispace.specs.declared.collector.Collector.{Collector}
 use Rattle.semispace.specs.declared.collector.Collector.TheVariants.{Rest, Slots, Scan, Field}
-use Rattle.semispace.specs.Layout.{size_at, mem, placed, lows, highs, mades, Laid}
+use Rattle.semispace.specs.Layout.{size_at, mem, placed, Laid}
 use Rattle.semispace.specs.Words.{State, set_halves, set_memory, noted, grown, front, filled, own, resting, refers, kind_at, place_of, word_at, next_place, reserved}
 use Rattle.semispace.specs.Sound.{the_olds, the_news, the_places, size_of, good, is_open, opened_at, Twin, At, Cycle, Sound}
-use Rattle.semispace.proofs.Spreads.{by_bool, mem_cases, mem_head, mem_append, mem_left, mem_right, placed_room, placed_more, total_append, size_two}
+use Rattle.semispace.proofs.Spreads.{mem_cases, mem_head, mem_append, mem_left, mem_right, placed_room, placed_more, total_append, size_two}
 use Rattle.semispace.proofs.Reserving.{places_inside, olds_inside, olds_spread, words_of_news, words_of_olds, sizes_of_news, sizes_of_olds, back_of_place, tag_of_old, lows_after, highs_after, mades_after, places_after, laid_after, side_cases, noted_kind, noted_length}
 
 pub good_more : (xs ys : List ℕ) (r : ℕ) → ((x : ℕ) → mem x xs ≡ true → mem x ys ≡ true) → good xs r ≡ true → good ys r ≡ true
@@ -36,23 +36,10 @@ module _ (s : State) (l : Laid s.book s.memory s.halves) where
 
 module _ (s : State) (S : Sound s) (going : resting s.collector ≡ false) (o : ℕ) (is_old : mem o (the_olds s) ≡ true) (none : place_of s o ≡ 0) where
   pub room_for : s.halves.low + size_of s o ≤ s.halves.high
-  room_for =
-      let l = S.laid in
-      let c = S.cycle going in
-      let r = placed_room s.book s.memory o (the_olds s) is_old none in
-      let t = total_append s.book s.memory (lows s.book s.memory s.halves) (highs s.book s.memory s.halves) in
-      omega (arith, c.sum, c.room, l.lows_fill, l.highs_fill, l.old_top)
+  room_for = grind (arith, placed_room, total_append)
 
   pub unopened : opened_at s.halves s.collector (next_place s) ≡ false
-  unopened =
-      let f = front_below s S.laid s.collector S.at going in
-      let r = room_for in
-      let t = size_two s.book s.memory o in
-      or_from _ _ (lt-leb _ _ (omega arith))
-      (or_from _ _ (le-ltb _ _ f.0)
-      (by_bool (is_open s.collector)
-      (λ e. and_left _ _ (ne_eqb (next_place s) (front s.halves.base s.halves.size s.collector) (λ d. omega (arith, f.1 e))))
-      (λ e. and_right _ _ e)))
+  unopened = search (rules, arith, front_below, room_for, size_two, or_from, lt-leb, le-ltb, and_left, ne_eqb, and_right)
 
   pub not_own : (i : ℕ) → own s.halves s.collector (next_place s) i ≡ false
   not_own i =
@@ -72,12 +59,7 @@ module _ (s : State) (S : Sound s) (going : resting s.collector ≡ false) (o : 
   olds_after = ap₂ (λ xs ys. xs ++ ys) (lows_after _ _ _ S.laid o is_old room_for) (highs_after _ _ _ S.laid o is_old room_for)
 
   pub news_kept : (x : ℕ) → mem x (the_news s) ≡ true → mem x (the_news (noted_state s o)) ≡ true
-  news_kept x k =
-      rw (places_after _ _ _ S.laid o is_old room_for, mades_after _ _ _ S.laid o is_old room_for)
-      (elim (mem_append x (the_places s) (mades s.book s.memory s.halves) k) [
-        | inl e ↦ mem_left x _ _ (mem_left x _ _ e)
-        | inr e ↦ mem_right x _ _ e
-      ])
+  news_kept x k = grind (arith, places_after, room_for, mades_after, mem_append, mem_left, mem_right)
 
   pub places_kept : (x : ℕ) → mem x (the_places s) ≡ true → mem x (the_places (noted_state s o)) ≡ true
   places_kept x k = rw (places_after _ _ _ S.laid o is_old room_for) (mem_left x _ _ k)
@@ -86,9 +68,7 @@ module _ (s : State) (S : Sound s) (going : resting s.collector ≡ false) (o : 
   place_there = rw (places_after _ _ _ S.laid o is_old room_for) (mem_right (next_place s) (the_places s) _ (mem_head (next_place s) []))
 
   pub places_cases : (x : ℕ) → mem x (the_places (noted_state s o)) ≡ true → (mem x (the_places s) ≡ true) ⊎ (x ≡ next_place s)
-  places_cases x k =
-      elim (mem_append x (the_places s) (next_place s ∷ []) (rw (places_after _ _ _ S.laid o is_old room_for) at k))
-      [ inl e ↦ inl e | inr e ↦ elim (mem_cases x (next_place s) [] e) [ inl d ↦ inr d | inr d ↦ absurd (false≢true d) ] ]
+  places_cases x k = search (rules, arith, mem_append, places_after, room_for, mem_cases)
 
   pub words_news : (x j : ℕ) → mem x (the_news s) ≡ true → j < size_of s x → word_at (noted_state s o) (x + j) ≡ word_at s (x + j)
   words_news x j k lt = words_of_news _ _ _ S.laid o is_old room_for x j k lt
@@ -126,40 +106,19 @@ module _ (s : State) (S : Sound s) (going : resting s.collector ≡ false) (o : 
   kind_news x k = ap (λ w. w % 16) (tag_news x k)
 
   pub kind_place : kind_at (noted_state s o) (next_place s) ≡ kind_at s o
-  kind_place =
-      let oi = olds_inside _ _ _ S.laid o is_old in
-      let t = size_two s.book s.memory o in
-      let f = S.laid.fits in
-      let r = room_for in
-      let w = S.laid.top in
-      let e = noted_kind s.memory (next_place s) o (elim (side_cases _ _ _ S.laid) [ inl e ↦ omega arith | inr e ↦ omega arith ]) (elim (side_cases _ _ _ S.laid) [ inl e ↦ omega arith | inr e ↦ omega arith ]) in
-      omega arith
+  kind_place = search (rules, arith, olds_inside, size_two, room_for, noted_kind, side_cases)
 
   pub tag_place : place_of (noted_state s o) (next_place s) ≡ 0
-  tag_place =
-      let oi = olds_inside _ _ _ S.laid o is_old in
-      let t = size_two s.book s.memory o in
-      let f = S.laid.fits in
-      let r = room_for in
-      let w = S.laid.top in
-      let e = noted_kind s.memory (next_place s) o (elim (side_cases _ _ _ S.laid) [ inl e ↦ omega arith | inr e ↦ omega arith ]) (elim (side_cases _ _ _ S.laid) [ inl e ↦ omega arith | inr e ↦ omega arith ]) in
-      omega arith
+  tag_place = search (rules, arith, olds_inside, size_two, room_for, noted_kind, side_cases)
 
   pub back_place : word_at (noted_state s o) (next_place s) ≡ o + 1
   back_place = back_of_place _ _ _ S.laid o is_old room_for
 
   pub goods_kept : (r : ℕ) → good (the_news s ++ the_olds s) r ≡ true → good (the_news (noted_state s o) ++ the_olds (noted_state s o)) r ≡ true
-  goods_kept r g =
-      good_more _ _ r
-      (λ x k. elim (mem_append x (the_news s) (the_olds s) k) [ inl e ↦ mem_left x _ _ (news_kept x e) | inr e ↦ mem_right x (the_news (noted_state s o)) (the_olds (noted_state s o)) (rw olds_after e) ]) g
+  goods_kept r g = search (rules, arith, good_more, mem_append, mem_left, news_kept, mem_right, olds_after)
 
   pub twin_o : Twin (noted_state s o) o (next_place s)
-  twin_o = record {
-    inside = place_there;
-    kind = kind_place ∙ sym (kind_olds o is_old);
-    back = λ u. back_place;
-    head = λ u. absurd (false≢true (sym unopened ∙ u));
-  }
+  twin_o = search (rules, arith, place_there, kind_place, kind_olds, back_place, unopened)
 
   pub twin_other : (x p : ℕ) → mem x (the_olds s) ≡ true → Twin s x p → Twin (noted_state s o) x p
   twin_other x p k t = record {
@@ -220,11 +179,7 @@ module _ (s : State) (S : Sound s) (going : resting s.collector ≡ false) (o : 
       rw w (goods_kept (word_at s (x + 2 + i)) ((S.cycle going).olds_refer x i k lt r))
 
   pub news_cases : (x : ℕ) → mem x (the_news (noted_state s o)) ≡ true → (mem x (the_news s) ≡ true) ⊎ (x ≡ next_place s)
-  news_cases x k =
-      elim (mem_append x (the_places (noted_state s o)) _ k) [
-        | inl e ↦ elim (places_cases x e) [ inl d ↦ inl (in_news x d) | inr d ↦ inr d ]
-        | inr e ↦ inl (mem_right x _ _ (rw (mades_after _ _ _ S.laid o is_old room_for) at e))
-      ]
+  news_cases x k = search (rules, arith, mem_append, places_cases, in_news, mem_right, mades_after, room_for)
 
   pub news_refer_after : (x i : ℕ) → mem x (the_news (noted_state s o)) ≡ true → 2 + i < size_of (noted_state s o) x → own s.halves s.collector x i ≡ true → refers s.book (kind_at (noted_state s o) x) i ≡ true → good (the_news (noted_state s o)) (word_at (noted_state s o) (x + 2 + i)) ≡ true
   news_refer_after x i k0 lt0 ow r0 =

@@ -1,5 +1,5 @@
 -- The words of a reserved place, and the layout after it.
-use Rattle.std.proofs.Common.{◌≡◌, ℕ, ◌+◌, ◌*◌, ◌%◌, ◌<◌, ◌≤◌, true, eqb, ◌≢◌, ◌⊎◌, List, [], ◌∷◌, ◌++◌, length, get_or, set, ap, ◌∙◌, inl, inr, arith}
+use Rattle.std.proofs.Common.{rules, ◌≡◌, ℕ, ◌+◌, ◌*◌, ◌%◌, ◌<◌, ◌≤◌, true, eqb, ◌≢◌, ◌⊎◌, List, [], ◌∷◌, ◌++◌, length, get_or, set, ap, ◌∙◌, inl, inr, arith}
 use Rattle.std.proofs.lemmas.Bool.{eqb-true, or_cases, cases_eq}
 use Rattle.std.proofs.lemmas.List.{get_or-set_same, get_or-set_other, length-set}
 use Rattle.kinds.specs.Shapes.{Shape}
@@ -21,16 +21,10 @@ module _ (m : List ℕ) (p o : ℕ) where
   noted_tag l = get_or-set_same (set (set m p (o + 1)) (p + 1) (get_or m (o + 1) 0 % 16)) (o + 1) (get_or m (o + 1) 0 % 16 + 16 * (p + 1)) 0 (simp length-set l)
 
   pub noted_kind : p + 1 < length m → p ≢ o → get_or (noted m p o) (p + 1) 0 ≡ get_or m (o + 1) 0 % 16
-  noted_kind l ne =
-      let n1 : p + 1 ≢ o + 1 = λ e. ne (omega arith) in
-      get_or-set_other (set (set m p (o + 1)) (p + 1) (get_or m (o + 1) 0 % 16)) (o + 1) (p + 1) (get_or m (o + 1) 0 % 16 + 16 * (p + 1)) 0 n1 ∙
-      get_or-set_same (set m p (o + 1)) (p + 1) (get_or m (o + 1) 0 % 16) 0 (simp length-set l)
+  noted_kind l ne = grind (arith, get_or-set_other, get_or-set_same, length-set)
 
   pub noted_back : p < length m → p ≢ o + 1 → get_or (noted m p o) p 0 ≡ o + 1
-  noted_back l n1 =
-      let n2 : p ≢ p + 1 = omega arith in
-      get_or-set_other (set (set m p (o + 1)) (p + 1) (get_or m (o + 1) 0 % 16)) (o + 1) p (get_or m (o + 1) 0 % 16 + 16 * (p + 1)) 0 n1 ∙
-      (get_or-set_other (set m p (o + 1)) (p + 1) p (get_or m (o + 1) 0 % 16) 0 n2 ∙ get_or-set_same m p (o + 1) 0 l)
+  noted_back l n1 = grind (arith, get_or-set_other, get_or-set_same)
 
 module _ (b : List Shape) (m : List ℕ) (h : Halves) (l : Laid b m h) where
   pub side_cases : (h.base ≡ 0) ⊎ (h.base ≡ h.size)
@@ -62,19 +56,7 @@ module _ (b : List Shape) (m : List ℕ) (h : Halves) (l : Laid b m h) where
   -- a place is reserved for the old record at o
   module _ (o : ℕ) (is_old : mem o (olds b m h) ≡ true) (room : h.low + size_at b m o ≤ h.high) where
     pub words_of_news : (x j : ℕ) → mem x (news b m h) ≡ true → j < size_at b m x → get_or (noted m (h.base + h.low) o) (x + j) 0 ≡ get_or m (x + j) 0
-    words_of_news x j k lt =
-        elim (mem_append x (places b m h) (mades b m h) k) [
-          | inl d ↦
-              let i = places_inside x d in
-              let oi = olds_inside o is_old in
-              let t = size_two b m o in
-              noted_other m (h.base + h.low) o (x + j) (omega arith) (omega arith) (elim side_cases [ inl e ↦ omega arith | inr e ↦ omega arith ])
-          | inr d ↦
-              let i = mades_inside x d in
-              let oi = olds_inside o is_old in
-              let t = size_two b m o in
-              noted_other m (h.base + h.low) o (x + j) (omega arith) (omega arith) (elim side_cases [ inl e ↦ omega arith | inr e ↦ omega arith ])
-        ]
+    words_of_news x j k lt = grind (arith, mem_append, places_inside, olds_inside, size_two, noted_other, side_cases, mades_inside)
 
     pub words_of_olds : (x j : ℕ) → mem x (olds b m h) ≡ true → j < size_at b m x → ((x ≡ o) × (j ≡ 1) → ⊥) → get_or (noted m (h.base + h.low) o) (x + j) 0 ≡ get_or m (x + j) 0
     words_of_olds x j k lt ne =
@@ -98,30 +80,14 @@ module _ (b : List Shape) (m : List ℕ) (h : Halves) (l : Laid b m h) where
 
     pub sizes_of_olds : (x : ℕ) → mem x (olds b m h) ≡ true → size_at b (noted m (h.base + h.low) o) x ≡ size_at b m x
     unfolding size_at
-    sizes_of_olds x k =
-        elim (cases_eq x o) [
-          | inl e ↦
-              let q : get_or (noted m (h.base + h.low) o) (o + 1) 0 % 16 ≡ get_or m (o + 1) 0 % 16 = omega (arith, tag_of_old) in
-              rw e (ap (λ w. 2 + size b w) q)
-          | inr e ↦ ap (λ w. 2 + size b (w % 16)) (words_of_olds x 1 k (size_two b m x) (λ d. e d.0))
-        ]
+    sizes_of_olds x k = grind (arith, tag_of_old, words_of_olds, size_two)
 
     pub size_of_place : size_at b (noted m (h.base + h.low) o) (h.base + h.low) ≡ size_at b m o
     unfolding size_at
-    size_of_place =
-        let oi = olds_inside o is_old in
-        let t = size_two b m o in
-        let f = l.fits in
-        let e = noted_kind m (h.base + h.low) o (elim side_cases [ inl e ↦ omega arith | inr e ↦ omega arith ]) (elim side_cases [ inl e ↦ omega arith | inr e ↦ omega arith ]) in
-        let q : get_or (noted m (h.base + h.low) o) (h.base + h.low + 1) 0 % 16 ≡ get_or m (o + 1) 0 % 16 = omega arith in
-        ap (λ w. 2 + size b w) q
+    size_of_place = grind (arith, olds_inside, size_two, noted_kind, side_cases)
 
     pub back_of_place : get_or (noted m (h.base + h.low) o) (h.base + h.low) 0 ≡ o + 1
-    back_of_place =
-        let oi = olds_inside o is_old in
-        let t = size_two b m o in
-        let f = l.fits in
-        noted_back m (h.base + h.low) o (elim side_cases [ inl e ↦ omega arith | inr e ↦ omega arith ]) (elim side_cases [ inl e ↦ omega arith | inr e ↦ omega arith ])
+    back_of_place = grind (arith, olds_inside, size_two, noted_back, side_cases)
 
     pub lows_after : lows b (noted m (h.base + h.low) o) (grown h (size_at b m o)) ≡ lows b m h
     lows_after = starts_same b m (noted m (h.base + h.low) o) _ _ _ (λ x k. sizes_of_olds x (mem_left x (lows b m h) (highs b m h) k))
@@ -147,17 +113,4 @@ module _ (b : List Shape) (m : List ℕ) (h : Halves) (l : Laid b m h) where
         rw at (push ∙ ap (λ xs. xs ++ ((h.base + h.low) ∷ [])) places_same)
 
     pub laid_after : Laid b (noted m (h.base + h.low) o) (grown h (size_at b m o))
-    laid_after =
-        let n = noted m (h.base + h.low) o in
-        record {
-          fits = rw (noted_length m (h.base + h.low) o) l.fits;
-          side = l.side;
-          ends = room;
-          top = l.top;
-          old_ends = l.old_ends;
-          old_top = l.old_top;
-          lows_fill = rw (lows_after, total_same b m n (lows b m h) (λ x k. sizes_of_olds x (mem_left x (lows b m h) (highs b m h) k))) l.lows_fill;
-          highs_fill = rw (highs_after, total_same b m n (highs b m h) (λ x k. sizes_of_olds x (mem_right x (lows b m h) (highs b m h) k))) l.highs_fill;
-          places_fill = rw (places_after, total_append b n (places b m h) ((h.base + h.low) ∷ []), places_total) (omega (arith, size_of_place, l.places_fill));
-          mades_fill = rw (mades_after, total_same b m n (mades b m h) (λ x k. sizes_of_news x (mem_right x (places b m h) (mades b m h) k))) l.mades_fill;
-        }
+    laid_after = search (rules, arith, noted_length, lows_after, total_same, sizes_of_olds, mem_left, highs_after, mem_right, places_after, total_append, places_total, size_of_place, mades_after, sizes_of_news)

@@ -1,5 +1,5 @@
 -- What calls see at an address that a slot holds.
-use Rattle.std.proofs.Common.{◌≡◌, ℕ, zero, suc, ◌+◌, ◌-◌, ◌<◌, ◌≤◌, Bool, true, false, eqb, List, [], ◌∷◌, map, length, get_or, take, sym, refl, ap, ◌∙◌, subst, inl, inr, arith}
+use Rattle.std.proofs.Common.{rules, ◌≡◌, ℕ, zero, suc, ◌+◌, ◌-◌, ◌<◌, ◌≤◌, Bool, true, false, eqb, List, [], ◌∷◌, map, length, get_or, take, sym, refl, ap, ◌∙◌, subst, inl, inr, arith}
 use Rattle.std.proofs.lemmas.Bool.{ne_eqb}
 use Rattle.kinds.specs.Shapes.{no_shape}
 use Rattle.graph.specs.Graph.{size, Record, ◌∈◌}
@@ -116,11 +116,7 @@ module _ (s : State) (S : Sound s) (K : Known s) where
       go e = unfold raw_of in (let l2 : a < length (map (name s) (take s.count s.slots)) = omega arith in (slot_at s S K a l2).1)
 
   pub slot_leads : (a : ℕ) → a < s.count → 0 < get_or s.slots a 0 → RefersTo (held_at s a)
-  slot_leads a l z =
-      let g = slot_reference s S K a l in (
-        (λ e. elim (good_cases (the_news s) (get_or s.slots a 0) (g.0 e)) [ inl d ↦ absurd (omega arith) | inr d ↦ d.1 ]),
-        λ e. elim (good_cases (all s) (get_or s.slots a 0) (g.1 e)) [ inl d ↦ absurd (omega arith) | inr d ↦ d.1 ],
-      )
+  slot_leads a l z = search (rules, arith, slot_reference, good_cases, all)
 
   -- the record that slot a holds, by its object
   module _ (a : ℕ) (l : a < s.count) (full : 0 < get_or s.slots a 0) where
@@ -185,10 +181,7 @@ module _ (s : State) (S : Sound s) (K : Known s) where
           kind_is = ap (λ (r : Record). r.kind) held_record ∙ (unfold record_of in refl)
 
           go : i < (get_or s.book (GC.held (raw_of s) a).kind no_shape).fields
-          go =
-              let P : ℕ → Type 0 = λ n. i < n in
-              let e : fields_at s object ≡ (get_or s.book (GC.held (raw_of s) a).kind no_shape).fields = sym (ap (λ k. (get_or s.book k no_shape).fields) kind_is) in
-              subst P e (let f = fields_same in omega arith)
+          go = grind (arith, object, kind_is, fields_same)
 
       -- read
       pub read_answer : refers s.book (kind_at s (held_at s a)) i ≡ false → get_or (GC.held (raw_of s) a).fields i 0 ≡ value s (held_at s a) i
@@ -201,6 +194,4 @@ module _ (s : State) (S : Sound s) (K : Known s) where
 
       -- what field i names
       pub follow_answer : refers s.book (kind_at s (held_at s a)) i ≡ true → get_or (GC.held (raw_of s) a).fields i 0 ≡ name s (value s (held_at s a) i)
-      follow_answer r =
-          let r2 : refers s.book (kind_at s object) i ≡ true = ap (λ k. refers s.book k i) (sym sees.kind) ∙ r in
-          held_field ∙ (shown_reference s object i r2 ∙ ap (name s) (sym (same_value i)))
+      follow_answer r = grind (arith, object, sees, held_field, shown_reference, same_value)

@@ -8,13 +8,12 @@ use Rattle.graph.specs.Calls as GC
 use Rattle.graph.specs.Meaning.{headed_charges}
 use Rattle.graph.proofs.Laws.{after_prune}
 use Rattle.semispace.specs.Layout.{mem}
-use Rattle.semispace.specs.Words.{State, set_slots, forwarded_state, forwarded_reference, put_slot, fields_at, resting, refers, kind_at}
+use Rattle.semispace.specs.Words.{State, set_slots, forwarded_state, forwarded_reference, put_slot, fields_at, refers, kind_at}
 use Rattle.semispace.specs.Sound.{the_news, Sound, number, value, name}
 use Rattle.semispace.specs.Dues.{objects, lives, due}
 use Rattle.semispace.specs.Graphs.{raw_of, graph_of, Known, Whole}
 use Rattle.semispace.specs.Collected.{meaning_of, Accepted}
 use Rattle.semispace.specs.Callings.{held_at, dropped, holding, followed}
-use Rattle.semispace.proofs.Spreads.{by_bool}
 use Rattle.semispace.proofs.Putting.{all}
 use Rattle.semispace.proofs.SlotSound.{good_cases, good_none}
 use Rattle.semispace.proofs.Likes.{name_of}
@@ -77,10 +76,7 @@ module _ (s : State) (S : Sound s) (K : Known s) where
           graph_from u e q = unfold graph_of in (ap₂ (λ (b : List Shape) g. prune b g) q e ∙ sym (after_prune s.book (raw_of s) (raw_sound s S K) c ok))
 
           still_going : (u : State) → u.collector ≡ s.collector → 0 < due s → 0 < due u
-          still_going u q z =
-              by_bool (resting s.collector)
-              (λ e. let d = due_rest s e in absurd (omega arith))
-              (λ e. due_going u (rw q e))
+          still_going u q z = grind (arith, due_rest, due_going)
 
   in_slots : (a : ℕ) → a < s.count → a < length (raw_of s).slots
   in_slots a l = let e = slots_length s S K in omega arith

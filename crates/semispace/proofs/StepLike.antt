@@ -1,5 +1,5 @@
 -- Every transition within a cycle looks the same to calls.
-use Rattle.std.proofs.Common.{◌≡◌, ℕ, ◌+◌, ◌-◌, ◌<◌, ◌≤◌, Bool, true, false, ◌&&◌, ◌||◌, T, eqb, ltb, leb, ◌≢◌, ◌⊎◌, get_or, set, sym, refl, ap, ◌∙◌, subst, inl, inr, arith}
+use Rattle.std.proofs.Common.{rules, ◌≡◌, ℕ, ◌+◌, ◌-◌, ◌<◌, ◌≤◌, Bool, true, false, ◌&&◌, ◌||◌, T, eqb, ltb, leb, ◌≢◌, ◌⊎◌, get_or, set, sym, refl, ap, ◌∙◌, subst, inl, inr, arith}
 use Rattle.std.proofs.lemmas.Bool.{or_left, or_right, and_left, ltb-true, le-leb, lt-ltb, and_from, and_parts, eqb-true, ltb-false, eq-eqb, ne_eqb, cases_eq, cases_order, false≢true}
 use Rattle.graph.specs.Graph.{size}
 use Rattle.semispace.specs.declared.collector.Collector.{Collector}
@@ -22,10 +22,7 @@ use Rattle.semispace.proofs.Likes.{like_objs, like_trans, ForwardLike, forward_l
 use Rattle.semispace.proofs.FieldLike.{Apart, field_like, open_like}
 
 pub like_apart : (s t : State) → Like s t → Apart s → Apart t
-like_apart s t L d a b ka kb e =
-    let ja : mem a (objs s) ≡ true = rw (like_objs s t L) at ka in
-    let jb : mem b (objs s) ≡ true = rw (like_objs s t L) at kb in
-    d a b ja jb (sym (L.head a ja) ∙ (e ∙ L.head b jb))
+like_apart s t L d a b ka kb e = search (rules, arith, objs, like_objs)
 
 module _ (t : State) (T : Sound t) (distinct : Apart t) (at from i v : ℕ) (is : t.collector ≡ Field (cursor at from i))
     (right : refers t.book (kind_at t at) i ≡ true → good (the_news t) v ≡ true)
@@ -141,15 +138,7 @@ module _ (t : State) (T : Sound t) (distinct : Apart t) (at from i v : ℕ) (is 
 
 module _ (s : State) (S : Sound s) where
   pub slots_from_like : (t : State) (T : Sound t) (n v : ℕ) → t.collector ≡ Slots n → good (the_news t) v ≡ true → name t v ≡ name t (get_or t.slots n 0) → Sound (set_collector (set_slots t (set t.slots n v)) (slots_from t (n + 1))) → Like t (set_collector (set_slots t (set t.slots n v)) (slots_from t (n + 1)))
-  slots_from_like t T n v is leads means =
-      let P : Collector → Type 0 = λ c. At t c in
-      let here : n < t.count = subst P is T.at in
-      let R : Collector → Type 0 = λ c. Sound (set_collector (set_slots t (set t.slots n v)) c) → Like t (set_collector (set_slots t (set t.slots n v)) c) in
-      by_bool (ltb (n + 1) t.count)
-      (λ d. let q : slots_from t (n + 1) ≡ Slots (n + 1) = rw d in
-      subst R (sym q) (slot_like t T n v (Slots (n + 1)) (rw is) leads here means refl (λ x. rw is) (λ x k. rw is)))
-      (λ d. let q : slots_from t (n + 1) ≡ Scan t.halves.base = rw d in
-      subst R (sym q) (slot_like t T n v (Scan t.halves.base) (rw is) leads here means refl (λ x. rw is) (λ x k. rw is)))
+  slots_from_like t T n v is leads means = search (rules, arith, here, Like, slot_like)
 
   pub passed_like : (n : ℕ) → s.collector ≡ Slots n → Like s (passed s n)
   passed_like n is =

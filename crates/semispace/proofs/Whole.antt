@@ -1,5 +1,5 @@
 -- The records that calls see are a sound graph.
-use Rattle.std.proofs.Common.{◌≡◌, ℕ, zero, suc, ◌+◌, ◌-◌, ◌<◌, true, false, cond, eqb, ltb, leb, ◌⊎◌, List, [], ◌∷◌, ◌++◌, map, length, get_or, take, sym, refl, ap, ◌∙◌, subst, inl, inr, arith}
+use Rattle.std.proofs.Common.{rules, ◌≡◌, ℕ, zero, suc, ◌+◌, ◌-◌, ◌<◌, true, false, cond, ◌⊎◌, List, [], ◌∷◌, ◌++◌, map, length, get_or, take, sym, refl, ap, ◌∙◌, subst, inl, inr, arith}
 use Rattle.std.proofs.lemmas.Bool.{or_left, or_right, lt-ltb, eq-eqb, ne_eqb, false≢true}
 use Rattle.std.specs.List.{range_with_len}
 use Rattle.std.proofs.lemmas.List.FromFn.{length-map-range_with_len, get_or-map-range_with_len}
@@ -12,7 +12,7 @@ use Rattle.graph.specs.Sound as G
 use Rattle.semispace.specs.declared.collector.Collector.{Collector}
 use Rattle.semispace.specs.declared.collector.Collector.TheVariants.{Rest, Slots, Scan, Field}
 use Rattle.semispace.specs.Layout.{size_at, mem, Spread}
-use Rattle.semispace.specs.Words.{State, fields_at, own, resting, refers, kind_at, place_of, word_at}
+use Rattle.semispace.specs.Words.{State, fields_at, resting, refers, kind_at, place_of, word_at}
 use Rattle.semispace.specs.Sound.{the_olds, the_news, the_places, size_of, good, Twin, Sound, number, value, name, shown}
 use Rattle.semispace.specs.Dues.{objects}
 use Rattle.semispace.specs.Graphs.{record_of, raw_of, Known}
@@ -126,11 +126,7 @@ module _ (s : State) (S : Sound s) (K : Known s) where
 
   pub good_name : (xs : List ℕ) (r : ℕ) → good xs r ≡ true → 0 < name s r → (mem (r - 1) xs ≡ true) × (name s r ≡ number s (r - 1))
   unfolding name
-  good_name xs r g l =
-      elim (good_cases xs r g) [
-        | inl e ↦ let z : eqb r 0 ≡ true = eq-eqb r 0 e in let l2 : 0 < 0 = rw z at l in absurd (omega arith)
-        | inr e ↦ let z : eqb r 0 ≡ false = ne_eqb r 0 e.0 in (e.1, rw z)
-      ]
+  good_name xs r g l = search (rules, arith, good_cases, eq-eqb, ne_eqb)
 
   abbrev pub Reference : ℕ → Type 0
   Reference r = (resting s.collector ≡ true → good (the_news s) r ≡ true) × (resting s.collector ≡ false → good (all s) r ≡ true)
@@ -150,18 +146,10 @@ module _ (s : State) (S : Sound s) (K : Known s) where
 
   rest_value : resting s.collector ≡ true → (x i : ℕ) → mem x (the_news s) ≡ true → 2 + i < size_of s x → refers s.book (kind_at s x) i ≡ true → good (the_news s) (value s x i) ≡ true
   unfolding value
-  rest_value e0 x i k l r =
-      let is = rested s.collector e0 in
-      let j = news_inside s S.laid x k in
-      let o : own s.halves s.collector x i ≡ true = rw is (or_right (leb (s.halves.base + s.halves.high) x) _ (or_left (ltb x (s.halves.base + s.halves.size)) _ (lt-ltb x (s.halves.base + s.halves.size) (omega (arith, size_two s.book s.memory x))))) in
-      let e : x + (2 + i) ≡ x + 2 + i = omega arith in
-      rw (rest_home s S x i is k, e) (S.news_refer x i k l o r)
+  rest_value e0 x i k l r = grind (arith, rested, news_inside, or_right, or_left, lt-ltb, size_two, rest_home)
 
   pub field_reference : (x i : ℕ) → mem x (objects s) ≡ true → 2 + i < size_of s x → refers s.book (kind_at s x) i ≡ true → Reference (value s x i)
-  field_reference x i k l r = (
-    (λ e. rest_value e x i (rw (objects_rest s e) at k) l r),
-    λ e. value_good s S e x i (objs_all s x (rw (objects_cycle s e) at k)) l r,
-  )
+  field_reference x i k l r = search (rules, arith, rest_value, objects_rest, value_good, objs_all, objects_cycle)
 
   pub object_refers : (x i : ℕ) → mem x (objects s) ≡ true → within (get_or s.book (kind_at s x) no_shape).runs i ≡ refers s.book (kind_at s x) i
   object_refers x i k = refl
@@ -218,17 +206,4 @@ module _ (s : State) (S : Sound s) (K : Known s) where
 
   pub raw_sound : G.Sound s.book (raw_of s)
   unfolding raw_of record_of
-  raw_sound = record {
-    distinct = raw_distinct;
-    given = λ r i. let k = in_map (record_of s) (objects s) r i in
-        let P : Record → Type 0 = λ r. (0 < r.number) × (r.number < s.next) in
-        let kx = in_mem k.0 (objects s) k.1 in
-        subst P (sym k.2) (rw (object_number s S k.0 kx) (K.given k.0 kx));
-    shaped = λ r i. let k = in_map (record_of s) (objects s) r i in
-        let P : Record → Type 0 = λ r. (r.kind < length s.book) × (length r.fields ≡ (get_or s.book r.kind no_shape).fields) in
-        let kx = in_mem k.0 (objects s) k.1 in
-        let b = K.kinds k.0 kx in
-        subst P (sym k.2) (b, length-map-range_with_len (shown s k.0) 0 (fields_at s k.0));
-    whole = λ n q. whole_raw q;
-    first = λ l. K.first (some_slots s.count s.slots l);
-  }
+  raw_sound = search (rules, arith, raw_distinct, in_map, in_mem, object_number, length-map-range_with_len, whole_raw, some_slots)

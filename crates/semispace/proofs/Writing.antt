@@ -182,17 +182,11 @@ module _ (s : State) (S : Sound s) (K : Known s) (o i w : ℕ) (ko : mem o (obje
 
   pub shown_hit : shown after o i ≡ meant
   unfolding shown
-  shown_hit =
-      by_bool (refers s.book (kind_at s o) i)
-      (λ e. rw (kind_a o ko, e) (ap (name after) value_hit ∙ name_a w (w_reference e)))
-      (λ e. rw (kind_a o ko, e) value_hit)
+  shown_hit = grind (arith, kind_a, value_hit, name_a, w_reference)
 
   pub shown_miss : (x n : ℕ) → mem x (objects s) ≡ true → 2 + n < size_of s x → ((x ≡ o) × (n ≡ i) → ⊥) → shown after x n ≡ shown s x n
   unfolding shown
-  shown_miss x n k l ne =
-      by_bool (refers s.book (kind_at s x) n)
-      (λ e. rw (kind_a x k, e) (ap (name after) (value_miss x n k l ne) ∙ name_a (value s x n) (field_reference s S K x n k l e)))
-      (λ e. rw (kind_a x k, e) (value_miss x n k l ne))
+  shown_miss x n k l ne = grind (arith, kind_a, value_miss, name_a, field_reference)
 
   record_hit : record_of after o ≡ record { number = (record_of s o).number; kind = (record_of s o).kind; fields = set (record_of s o).fields i meant }
   unfolding record_of
@@ -324,9 +318,4 @@ module _ (s : State) (S : Sound s) (K : Known s) (o i w : ℕ) (ko : mem o (obje
   left_f (Field c) a = let z = size_p s S K h i w kh ph right_h c.at (mem_left c.at (the_news s) (the_olds s) (mem_left c.at (the_places s) (the_mades s) a.0)) in omega arith
 
   pub field_due : due after ≤ due s
-  field_due =
-      let q = field_less in
-      let z = q.pending in
-      by_bool (resting s.collector)
-      (λ e. let a = due_rest after e in omega arith)
-      (λ e. let a = due_is after e in let c = due_is s e in let l = left_f s.collector S.at in omega arith)
+  field_due = grind (arith, field_less, due_rest, due_is, left_f)
