@@ -13,6 +13,7 @@ pub trait Collected: Heap {
 
     /// Makes `count` steps of the collector, but stops with the one that ends a cycle. Answers the steps made, and whether
     /// a cycle ended. It is never refused.
+    // Kept: a pair of the steps and whether a cycle ended; that is a rule of the project.
     fn idle(&mut self, count: u64) -> (u64, bool)
         ensures means { Idled (Self.Heap.meaning self.old) count result.0 result.1 (Self.Heap.meaning self.new) }
         ensures acts { idles self.old count result.0 result.1 self.new };

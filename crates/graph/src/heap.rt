@@ -57,6 +57,7 @@ pub trait Heap {
         ensures acts { acts self.old (Dropped slot) (as_done result) self.new };
 
     /// Answers number and kind of the slot's record, both 0 for an empty slot.
+    // Kept: a pair, 0 and 0 for an empty slot; that is a rule of the project.
     fn look(&mut self, slot: u32) -> Result<(u32, u32), Refusal>
         ensures means { Called (meaning self.old) (Look slot) (as_known result) (meaning self.new) }
         ensures acts { acts self.old (Look slot) (as_known result) self.new };

@@ -4,12 +4,14 @@
 
 mod calls;
 pub mod collected;
+pub mod counting;
 pub mod heap;
 pub mod layout;
-pub mod opening;
+mod opening;
 mod refusals;
 pub mod slots;
 pub mod space;
+pub mod words;
 
 ghost use Rattle.graph.specs.Laws.{Laws, Examples};
 

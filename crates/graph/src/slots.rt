@@ -9,6 +9,8 @@ use crate::opening::is_bad;
 use kinds::refusal::Refusal;
 
 /// Slots numbered from 0. Each holds a reference: 0 if it is empty, else 1 more than the address of its record.
+// Kept: 64 places and a count, since a heap lies in fixed memory; 0 is an empty slot, since a call copies words of the
+// lent memory into slots and back, and these write references so.
 #[derive(Clone, Copy)]
 pub struct Slots {
     held: [u32; MAX_SLOTS],
@@ -48,6 +50,7 @@ impl Slots {
     }
 
     /// Puts a reference into a slot; one past the 64 places is left out.
+    // Kept: a test and an index, since the check's contract of `get_mut` names no element of an array.
     pub fn set(&mut self, slot: u32, reference: u32)
         ensures held { self.new.held ≡ slice_set self.old.held slot reference }
         ensures count { self.new.count ≡ self.old.count }
@@ -58,6 +61,7 @@ impl Slots {
     }
 
     /// Was the opening good? It is refused with 10 exactly if there are no slots.
+    // Kept: a bad opening gives a heap of no slots, and this question returns 10; that is a rule of the project.
     pub fn opening(&self) -> Result<(), Refusal>
         ensures { tested result ≡ asked_opening self.now.count }
     {

@@ -10,6 +10,7 @@ pub struct Bill {
 }
 
 /// Why a settle was refused.
+// Kept: an enum of one case, since it is the error of a settle, hands the bill back, and is matched by programs.
 #[derive(Debug)]
 pub enum NotSettled {
     /// 9: the bill's number is not the open one, or none is open. The bill is handed back.
@@ -21,6 +22,7 @@ pub enum NotSettled {
 pub struct Keeper<H, P> {
     heap: H,
     pacing: P,
+    // Kept: two single counts and no struct, since the pacing's question and the definitions name them one by one.
     steps: u32,
     words: u32,
     bill: Option<u32>,

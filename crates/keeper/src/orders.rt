@@ -19,6 +19,7 @@ pub enum Order {
 }
 
 /// What an order came to.
+// Kept: one enum and no Result, since programs match it, and a settle that is refused and an order that is no call are no Refusal.
 #[derive(Clone, Copy, PartialEq, Eq, Debug)]
 pub enum Reply {
     /// The call was made.

@@ -7,6 +7,7 @@ use crate::refusal::Refusal;
 
 impl Refusal {
     /// The number that a refused call returns.
+    // Kept: a method and no `From`, since pages and programs ask a refusal for its number by this name.
     pub fn number(self) -> u32
         ensures { result ≡ code self }
     {

@@ -1,4 +1,4 @@
-//! What a book keeps of one kind, as plain numbers.
+//! What a book keeps of one kind.
 
 use crate::fixed_list::FixedList;
 use crate::run::Run;

@@ -30,6 +30,7 @@ impl ByMark {
     }
 }
 
+// Kept: the first three members are those of by-word, each one name long; the answer and its law differ.
 impl Pacing for ByMark {
     ghost rate = { λ p. p.rate.number };
 

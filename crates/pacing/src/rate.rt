@@ -30,6 +30,6 @@ impl Rate {
     pub fn missing(self, steps: u32, words: u32) -> u64
         ensures { result ≡ missing self.number steps words }
     {
-        (self.number as u64 * words as u64).saturating_sub(steps as u64)
+        (u64::from(self.number) * u64::from(words)).saturating_sub(u64::from(steps))
     }
 }

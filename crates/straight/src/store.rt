@@ -12,6 +12,7 @@ pub mod words;
 
 /// The lent words, the slots, and the registers.
 pub struct Store<'m> {
+    // Kept: lent words, read and written at computed places; that is a rule of the project.
     pub(crate) memory: &'m mut [u32],
     pub(crate) slots: Slots,
     pub(crate) room: u32,
@@ -20,7 +21,7 @@ pub struct Store<'m> {
     pub(crate) book: SealedBook,
 }
 
-// Kept: a derived `Drop` has no contract, and this one promises what the lender finds.
+// Kept: a derived `Drop` has no contract, and this one promises what the lender finds, of each heap's own store.
 impl<'m> Drop for Store<'m> {
     /// Lets the heap go: the lent words stay as the last call left them.
     fn drop(self)

@@ -4,6 +4,7 @@ ghost use Rattle.std.specs.Prelude.{◌≡◌, is_err, if◌then◌else◌};
 ghost use Rattle.graph.specs.Cycle.{in_use};
 ghost use Rattle.tally.specs.Counts.{started, one_refused, one_made, idled_counts};
 
+use graph::counting::counted;
 use graph::heap::Heap;
 use kinds::refusal::Refusal;
 
@@ -59,7 +60,6 @@ impl Counts {
     pub fn add_steps(&mut self, made: u64)
         ensures { self.new ≡ idled_counts self.old made }
     {
-        let steps = u32::try_from(made).unwrap_or(u32::MAX);
-        self.steps = self.steps.saturating_add(steps);
+        self.steps = counted(self.steps, made, u32::MAX);
     }
 }

@@ -6,6 +6,7 @@ use kinds::refusal::Refusal;
 use straight::heap::Straight;
 
 /// A book of one kind, which gets the number 0: three fields, of which field 2 is a reference.
+// Kept: as README.md has it, though `book_of` of the other tests does the same.
 fn axles() -> Result<SealedBook, Refusal> {
     let mut book = Book::new();
     book.add(&[3, 2, 1])?;

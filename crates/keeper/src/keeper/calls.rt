@@ -14,19 +14,13 @@ ghost use Rattle.keeper.specs.Holding.{state, fresh, as_billed, Paired, Answered
 
 use super::{Bill, Keeper, NotSettled};
 use graph::collected::Collected;
+use graph::counting::counted;
 use graph::heap::Heap;
 use kinds::refusal::Refusal;
 use pacing::pace::Pacing;
 
 /// The counts stop here.
-const CAP: u64 = 1_000_000;
-
-/// A count with more, which stops at 1,000,000.
-fn counted(old: u32, more: u64) -> u32
-    ensures { result ≡ min (old + more) cap }
-{
-    u64::from(old).saturating_add(more).min(CAP) as u32
-}
+const CAP: u32 = 1_000_000;
 
 impl<H: Collected, P: Pacing> Keeper<H, P> {
     /// Sets a keeper up over a heap and a pacing. Over a heap just opened it is new.
@@ -63,7 +57,7 @@ impl<H: Collected, P: Pacing> Keeper<H, P> {
         let before = self.heap.spare();
         let number = self.heap.make(slot, kind)?;
         let after = self.heap.spare();
-        self.words = counted(self.words, (before - after) as u64);
+        self.words = counted(self.words, u64::from(before - after), CAP);
         self.bill = Some(number);
         Ok((number, Bill { number }))
     }
@@ -121,7 +115,6 @@ impl<H: Collected, P: Pacing> Keeper<H, P> {
         ensures event { Event (state H.Heap P.Pacing self.old) (OfHeap (Look slot)) (told (as_known result)) (state H.Heap P.Pacing self.new) }
         ensures acts { H.Heap.acts self.old.heap (Look slot) (as_known result) self.new.heap }
     {
-        // Kept: a pair, 0 and 0 for an empty slot, is a rule of the project: each heap's `look` answers so.
         self.heap.look(slot)
     }
 
@@ -139,13 +132,12 @@ impl<H: Collected, P: Pacing> Keeper<H, P> {
         ensures event { Event (state H.Heap P.Pacing self.old) (OfIdle count) (idled result.0 result.1) (state H.Heap P.Pacing self.new) }
         ensures acts { H.Collected.idles self.old.heap count result.0 result.1 self.new.heap }
     {
-        // Kept: a pair of the steps and whether a cycle ended is a rule of the project: each heap's `idle` answers so.
         let (made, ended) = self.heap.idle(count);
         if ended {
             self.steps = 0;
             self.words = 0;
         } else {
-            self.steps = counted(self.steps, made);
+            self.steps = counted(self.steps, made, CAP);
         }
         (made, ended)
     }
@@ -157,7 +149,7 @@ impl<H: Collected, P: Pacing> Keeper<H, P> {
         ensures event { Answered (state H.Heap P.Pacing self.old) bill.number result (state H.Heap P.Pacing self.new) }
         ensures acts { by_settled result (λ made. H.Collected.idles self.old.heap (Owed (state H.Heap P.Pacing self.old)) made (over made (state H.Heap P.Pacing self.new)) self.new.heap) (self.new.heap ≡ self.old.heap) }
     {
-        if !self.bill.is_some_and(|open| open == bill.number) {
+        if self.bill != Some(bill.number) {
             return Err(NotSettled::WrongBill(bill));
         }
         let Bill { number: _ } = bill;

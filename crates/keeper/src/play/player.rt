@@ -1,4 +1,4 @@
-//! One order on a keeper.
+//! A keeper that is given orders, and the bills that are held.
 
 ghost use Rattle.std.specs.Prelude.{◌≡◌, ◌<◌, vec_len, vec_capacity};
 ghost use Rattle.keeper.specs.declared.orders.Order.TheVariants.{Make, Settle};
@@ -51,40 +51,31 @@ impl<H: Collected, P: Pacing> Player<H, P> {
         ensures { Obeyed H.Heap P.Pacing self.old order (reply_of result) self.new }
     {
         // Kept: a match over which call to make, since a list of calls as values is what `play` takes.
-        Ok(match order {
-            Order::Make(slot, kind) => self.make(slot, kind)?,
-            Order::Read(slot, field) => Reply::Word(self.keeper.read(slot, field)?),
+        match order {
+            Order::Make(slot, kind) => self.make(slot, kind),
+            Order::Read(slot, field) => self.keeper.read(slot, field).map(Reply::Word),
             Order::Write(slot, field, word) => {
-                self.keeper.write(slot, field, word)?;
-                Reply::Done
+                self.keeper.write(slot, field, word).map(|()| Reply::Done)
             }
             Order::Follow(slot, field, to) => {
-                self.keeper.follow(slot, field, to)?;
-                Reply::Done
+                self.keeper.follow(slot, field, to).map(|()| Reply::Done)
             }
             Order::Link(slot, field, from) => {
-                self.keeper.link(slot, field, from)?;
-                Reply::Done
+                self.keeper.link(slot, field, from).map(|()| Reply::Done)
             }
-            Order::Hold(slot, to) => {
-                self.keeper.hold(slot, to)?;
-                Reply::Done
-            }
-            Order::Drop(slot) => {
-                self.keeper.drop(slot)?;
-                Reply::Done
-            }
+            Order::Hold(slot, to) => self.keeper.hold(slot, to).map(|()| Reply::Done),
+            Order::Drop(slot) => self.keeper.drop(slot).map(|()| Reply::Done),
             Order::Look(slot) => {
-                let (number, kind) = self.keeper.look(slot)?;
-                Reply::Known(number, kind)
+                let known = self.keeper.look(slot);
+                known.map(|(number, kind)| Reply::Known(number, kind))
             }
-            Order::Spare => Reply::Word(self.keeper.spare()),
+            Order::Spare => Ok(Reply::Word(self.keeper.spare())),
             Order::Idle(count) => {
                 let (made, ended) = self.keeper.idle(count);
-                Reply::Idled(made, ended)
+                Ok(Reply::Idled(made, ended))
             }
-            Order::Settle(place) => self.settle(place),
-        })
+            Order::Settle(place) => Ok(self.settle(place)),
+        }
     }
 
     /// Any order.

@@ -54,15 +54,15 @@ pub fn play<H: Collected, P: Pacing>(
 {
     let mut bills = strays;
     let count = orders.len();
-    let room = bills
+    let reserved = bills
         .reserve(count)
         .and_then(|()| Vec::with_capacity(alloc, count));
-    match room {
-        Ok(replies) => Ok(played(heap, pacing, orders, bills, replies)),
-        Err(_) => Err(Unplayed {
+    let Ok(replies) = reserved else {
+        return Err(Unplayed {
             heap,
             pacing,
             bills,
-        }),
-    }
+        });
+    };
+    Ok(played(heap, pacing, orders, bills, replies))
 }

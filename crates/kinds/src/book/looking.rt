@@ -28,6 +28,7 @@ impl SealedBook {
     }
 
     /// How many fields the records of kind `k` have, at most 62; 0 where the book has no such kind.
+    // Kept: 0 and no Option, as the public promise says; `kind` is the form with a refusal.
     pub fn fields(&self, k: u32) -> u32
         ensures fields { result ≡ (get_or (kinds_of self.now) k no_shape).fields }
         ensures few { result ≤ 62 }

@@ -7,9 +7,10 @@ ghost use Rattle.straight.specs.Words.{Acted};
 ghost use Rattle.straight.specs.Bounds.{numbers_bounded};
 
 use super::Straight;
-use graph::layout::HEAD;
+use graph::layout::charge;
 use graph::space::Space;
 
+// Kept: as the copying heap has it, function by function; each is one line and promises words of its own heap's state.
 impl<'m> Space for Straight<'m> {
     ghost meaning = { λ h. meaning_of (state h.store) };
 
@@ -28,7 +29,7 @@ impl<'m> Space for Straight<'m> {
     }
 
     fn charge(&self, kind: u32) -> u32 {
-        HEAD + self.store.book.fields(kind)
+        charge(&self.store.book, kind)
     }
 
     fn room(&self) -> u32 {
@@ -39,8 +40,9 @@ impl<'m> Space for Straight<'m> {
         self.store.room - self.store.top
     }
 
+    // Kept: 64 bits and no Option, since the next number after the last one is a number of the model.
     fn spent(&self) -> bool {
-        self.store.next > u32::MAX as u64
+        self.store.next > u64::from(u32::MAX)
     }
 
     fn vacant(&self, slot: u32) -> bool {

@@ -7,6 +7,7 @@ ghost use Rattle.straight.specs.Words.{Held, Room, spot as Spot, word_at, words_
 
 use super::Store;
 use graph::layout::HEAD;
+use graph::words::clear;
 
 impl<'m> Store<'m> {
     /// Lays a record of the kind at the top, and puts it into the slot; gives its number.
@@ -20,7 +21,7 @@ impl<'m> Store<'m> {
         let number = self.next as u32;
         self.put(at, number);
         self.put(at + 1, kind);
-        self.clear(at + HEAD, fields);
+        clear(self.memory, at + HEAD, fields);
         self.slots.set(slot, at + 1);
         self.top = at + (HEAD + fields);
         self.next += 1;
@@ -32,7 +33,7 @@ impl<'m> Store<'m> {
         requires { Held (state self.now) slot field }
         ensures { result ≡ Spot (state self.now) slot field }
     {
-        self.slots.get(slot) - 1 + HEAD + field
+        self.place(slot) + HEAD + field
     }
 
     /// A field of a slot's record.

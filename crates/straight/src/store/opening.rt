@@ -6,7 +6,6 @@ ghost use Rattle.straight.specs.Stored.{state};
 ghost use Rattle.straight.specs.Opening.{opened};
 
 use super::Store;
-use graph::opening::is_bad;
 use graph::slots::Slots;
 use kinds::book::SealedBook;
 
@@ -16,17 +15,14 @@ impl<'m> Store<'m> {
         ensures { state result ≡ opened memory.old slots (kinds_of book) first }
     {
         let words = memory.len();
-        let room = if is_bad(words, slots, first) {
-            0
-        } else {
-            words as u32
-        };
+        let slots = Slots::open(words, slots, first);
+        let room = if slots.count() == 0 { 0 } else { words as u32 };
         Store {
             memory,
-            slots: Slots::open(words, slots, first),
+            slots,
             room,
             top: 0,
-            next: first as u64,
+            next: u64::from(first),
             book,
         }
     }

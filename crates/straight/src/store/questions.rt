@@ -8,7 +8,7 @@ use super::Store;
 
 impl<'m> Store<'m> {
     /// The address of a full slot's record.
-    fn place(&self, slot: u32) -> u32
+    pub(crate) fn place(&self, slot: u32) -> u32
         requires { Full (state self.now) slot }
         ensures { result ≡ Place (state self.now) slot }
     {

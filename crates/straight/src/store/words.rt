@@ -1,4 +1,4 @@
-//! Single words, and runs of words that are cleared.
+//! Single words.
 
 ghost use Rattle.std.specs.Prelude.{◌≡◌, ◌+◌, ◌<◌, ◌≤◌, length, slice_set};
 ghost use Rattle.graph.specs.Clearing.{cleared};
@@ -22,14 +22,5 @@ impl<'m> Store<'m> {
         ensures { state self.new ≡ with_memory (state self.old) (slice_set (state self.old).memory at word) }
     {
         self.memory[at as usize] = word;
-    }
-
-    /// Clears `n` words from an address on.
-    pub(crate) fn clear(&mut self, at: u32, n: u32)
-        requires fits { at + n ≤ length (state self.old).memory }
-        requires small { at + n ≤ 16384 }
-        ensures { state self.new ≡ with_memory (state self.old) (cleared (state self.old).memory at n) }
-    {
-        self.memory[at as usize..(at + n) as usize].fill(0);
     }
 }
