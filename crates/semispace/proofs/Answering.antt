@@ -1,12 +1,12 @@
 -- What the functions of the copying heap's space ask and promise, from the invariant.
-use Rattle.std.proofs.Common.{rules, ◌≡◌, ℕ, ◌<◌, ◌≤◌, true, false, eqb, length, get_or, sym, ap, ◌∙◌, subst, ⊎_elim, arith}
-use Rattle.std.proofs.lemmas.Bool.{cases_eq, eq-eqb, ne_eqb}
+use Rattle.std.proofs.Common.{rules, ◌≡◌, ℕ, ◌<◌, ◌≤◌, true, false, eqb, length, get_or, sym, ap, ◌∙◌, subst, arith}
+use Rattle.std.proofs.lemmas.Bool.{eq-eqb, ne_eqb}
 use Rattle.graph.specs.Graph.{Record}
 use Rattle.graph.specs.Calls.{Call, make, read, write, follow, link, hold, look, Answer, slot, held}
 use Rattle.graph.specs.Meaning.{refusal, gave, Called}
 use Rattle.semispace.specs.Words.{State, Forwardable, kind_at}
 use Rattle.semispace.specs.Sound.{value}
-use Rattle.semispace.specs.Graphs.{raw_of, Whole}
+use Rattle.semispace.specs.Graphs.{Whole}
 use Rattle.semispace.specs.Collected.{meaning_of}
 use Rattle.semispace.specs.Callings.{held_at, words_after, words_answer, Full, Held, Numbered, Linkable, Makeable}
 use Rattle.semispace.proofs.Making.{make_room as room_left}

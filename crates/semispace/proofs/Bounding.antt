@@ -1,5 +1,5 @@
 -- What a cycle keeps is at most the live words and what was made since: kept and due are bounded.
-use Rattle.std.proofs.Common.{◌≡◌, ℕ, zero, suc, ◌+◌, ◌-◌, ◌<◌, ◌≤◌, Bool, true, false, not, ◌&&◌, ◌||◌, eqb, ltb, ◌≢◌, List, [], ◌∷◌, ◌++◌, map, length, get_or, take, sym, refl, ap, ◌∙◌, subst, inl, inr, arith}
+use Rattle.std.proofs.Common.{rules, ◌≡◌, ℕ, zero, suc, ◌+◌, ◌-◌, ◌<◌, ◌≤◌, Bool, true, false, not, ◌&&◌, ◌||◌, eqb, ltb, ◌≢◌, List, [], ◌∷◌, ◌++◌, map, length, get_or, take, sym, refl, ap, ◌∙◌, subst, inl, inr, arith}
 use Rattle.std.proofs.lemmas.Bool.{eqb-false, or_cases, or_left, or_right, and_parts, eqb-true, false≢true}
 use Rattle.std.proofs.lemmas.List.{get_or-map}
 use Rattle.std.proofs.lemmas.List.FromFn.{length-map-range_with_len}
@@ -40,11 +40,7 @@ sum_all s p (x ∷ xs) h = let r = sum_all s p xs (λ y k. h y (or_right (eqb y 
 
 sum_placed : (s : State) (p : ℕ → Bool) (xs : List ℕ) → ((x : ℕ) → mem x xs ≡ true → place_of s x ≢ 0 → p x ≡ true) → placed s.book s.memory xs ≤ sum_where p (size_of s) xs
 sum_placed s p [] h = omega arith
-sum_placed s p (x ∷ xs) h =
-    let r = sum_placed s p xs (λ y k. h y (or_right (eqb y x) (mem y xs) k)) in
-    by_bool (eqb (place_of s x) 0)
-    (λ e. rw e (omega arith))
-    (λ e. rw (e, h x (mem_head x xs) (eqb-false (place_of s x) 0 e)) (omega arith))
+sum_placed s p (x ∷ xs) h = search (rules, arith, or_right, mem_head, eqb-false, sum_placed s p xs (λ y k. h y (or_right (eqb y x) (mem y xs) k)))
 
 pub kept_rest : (s : State) → Sound s → resting s.collector ≡ true → kept s ≡ s.halves.low + (s.halves.size - s.halves.high)
 unfolding kept
@@ -143,12 +139,7 @@ module _ (s : State) (S : Sound s) (K : Known s) where
   weigh : (p : ℕ → Bool) (xs : List ℕ) → ((x : ℕ) → mem x xs ≡ true → mem x (objects s) ≡ true) → sum_where (λ x. p (number s x)) (size_of s) xs ≡ GC.total (headed_charges s.book) (GG.select (λ (r : Record). p r.number) (map (record_of s) xs))
   unfolding record_of
   weigh p [] h = refl
-  weigh p (x ∷ xs) h =
-      let ih = weigh p xs (λ y k. h y (or_right (eqb y x) (mem y xs) k)) in
-      let c = charge_is x (h x (mem_head x xs)) in
-      by_bool (p (number s x))
-      (λ e. rw (e) (omega arith))
-      (λ e. rw (e) (omega arith))
+  weigh p (x ∷ xs) h = search (rules, arith, or_right, charge_is, mem_head, weigh p xs (λ y k. h y (or_right (eqb y x) (mem y xs) k)))
 
   pub live_sum : sum_where (λ x. GG.reached book (raw_of s) (number s x)) (size_of s) (objects s) ≡ GC.live s.book (headed_charges s.book) (graph_of s)
   unfolding graph_of

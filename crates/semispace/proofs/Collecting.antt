@@ -1,9 +1,9 @@
 -- Every step keeps the meaning and comes nearer to the end; so does an idle, step by step.
-use Rattle.std.proofs.Common.{rules, ◌≡◌, ℕ, zero, suc, ◌+◌, ◌-◌, ◌<◌, ◌≤◌, true, false, ltb, sym, refl, subst, arith}
+use Rattle.std.proofs.Common.{rules, ◌≡◌, ℕ, zero, suc, ◌+◌, ◌<◌, ◌≤◌, true, false, ltb, sym, refl, subst, arith}
 use Rattle.graph.specs.Cycle.{Step, Idled, stop, last, more}
 use Rattle.semispace.specs.declared.collector.Collector.{Collector}
 use Rattle.semispace.specs.declared.collector.Collector.TheVariants.{Rest, Slots, Scan, Field}
-use Rattle.semispace.specs.Words.{State, set_halves, passed, opened, made, fitting, fitting_field, stepped, swapped, finished, slots_from, set_collector, resting, next_place, idle_made, idle_ended, idle_state}
+use Rattle.semispace.specs.Words.{State, set_halves, passed, opened, made, fitting, fitting_field, stepped, swapped, finished, set_collector, resting, next_place, idle_made, idle_ended, idle_state}
 use Rattle.semispace.specs.Sound.{Sound}
 use Rattle.semispace.specs.declared.collector.Transition.{Transition}
 use Rattle.semispace.specs.declared.collector.Transition.TheVariants.{Open, Done}
@@ -44,11 +44,7 @@ step_start s S K is c going_c few T = search (rules, arith, known_begun, due_is,
 
 module _ (s : State) (S : Sound s) (K : Known s) where
   means_at : (c : Collector) → s.collector ≡ c → Sound (made s (fitting s c)) → Step (meaning_of s) (meaning_of (made s (fitting s c)))
-  means_at Rest is =
-      let P : Collector → Type 0 = λ c. Sound (set_collector (set_halves s (swapped s.halves)) c) → Step (meaning_of s) (meaning_of (set_collector (set_halves s (swapped s.halves)) c)) in
-      by_bool (ltb 0 s.count)
-      (λ e. let q : slots_from (set_halves s (swapped s.halves)) 0 ≡ Slots 0 = rw e in subst P (sym q) (λ T. step_start s S K is (Slots 0) refl (omega arith) T))
-      (λ e. let q : slots_from (set_halves s (swapped s.halves)) 0 ≡ Scan (s.halves.size - s.halves.base) = rw e in subst P (sym q) (λ T. step_start s S K is (Scan (s.halves.size - s.halves.base)) refl (omega arith) T))
+  means_at Rest is = search (rules, arith, step_start)
   means_at (Slots n) is = λ T. step_like s (passed s n) S T (rw is) (passed_like s S n is) (passed_gain s S K n is)
   means_at (Scan at) is =
       let P : Transition → Type 0 = λ t. Sound (made s t) → Step (meaning_of s) (meaning_of (made s t)) in

@@ -4,7 +4,7 @@ use Rattle.std.proofs.lemmas.Bool.{or_left, or_right, le-leb, lt-ltb, ltb-false,
 use Rattle.semispace.specs.declared.collector.Collector.{Collector}
 use Rattle.semispace.specs.declared.collector.Collector.TheVariants.{Rest, Slots, Scan, Field}
 use Rattle.semispace.specs.Layout.{mem}
-use Rattle.semispace.specs.Words.{State, set_halves, passed, opened, made, fitting, fitting_field, stepped, swapped, finished, slots_from, set_collector, own, resting, kind_at, place_of, word_at, next_place}
+use Rattle.semispace.specs.Words.{State, set_halves, passed, opened, made, fitting, fitting_field, stepped, swapped, finished, set_collector, own, resting, kind_at, place_of, word_at, next_place}
 use Rattle.semispace.specs.Sound.{the_olds, the_news, the_places, opened_at, Twin, Sound}
 use Rattle.semispace.specs.declared.collector.Transition.{Transition}
 use Rattle.semispace.specs.declared.collector.Transition.TheVariants.{Open, Done}
@@ -106,11 +106,7 @@ module _ (s : State) (S : Sound s) (K : Known s) (at : ℕ) (is : s.collector �
 -- Every step keeps it.
 module _ (s : State) (S : Sound s) (K : Known s) where
   known_at : (c : Collector) → s.collector ≡ c → Known (made s (fitting s c))
-  known_at Rest is =
-      let P : Collector → Type 0 = λ c. Known (set_collector (set_halves s (swapped s.halves)) c) in
-      by_bool (ltb 0 s.count)
-      (λ e. let q : slots_from (set_halves s (swapped s.halves)) 0 ≡ Slots 0 = rw e in subst P (sym q) (known_begun s S K is (Slots 0) refl))
-      (λ e. let q : slots_from (set_halves s (swapped s.halves)) 0 ≡ Scan (s.halves.size - s.halves.base) = rw e in subst P (sym q) (known_begun s S K is (Scan (s.halves.size - s.halves.base)) refl))
+  known_at Rest is = search (rules, arith, known_begun)
   known_at (Slots n) is = known_like s (passed s n) (rw is) K (passed_like s S n is)
   known_at (Scan at) is =
       let T : Transition → Type 0 = λ t. Known (made s t) in

@@ -32,10 +32,7 @@ module _ (u : List ℕ) (e : ℕ → ℕ → Bool) (r : ℕ → Bool) (f : ℕ �
 
 pub sum_le : (p q : ℕ → Bool) (f g : ℕ → ℕ) (xs : List ℕ) → ((x : ℕ) → mem x xs ≡ true → p x ≡ true → q x ≡ true) → ((x : ℕ) → mem x xs ≡ true → f x ≤ g x) → sum_where p f xs ≤ sum_where q g xs
 sum_le p q f g [] h k = omega arith
-sum_le p q f g (y ∷ ys) h k =
-    let r = sum_le p q f g ys (λ x m. h x (or_right (eqb x y) (mem x ys) m)) (λ x m. k x (or_right (eqb x y) (mem x ys) m)) in
-    let l = k y (mem_head y ys) in
-    by_bool (p y) (λ e. rw (e, h y (mem_head y ys) e) (omega arith)) (λ e. rw e (omega arith))
+sum_le p q f g (y ∷ ys) h k = search (rules, arith, or_right, mem_head, sum_le p q f g ys (λ x m. h x (or_right (eqb x y) (mem x ys) m)) (λ x m. k x (or_right (eqb x y) (mem x ys) m)))
 
 pub sum_less : (p q : ℕ → Bool) (f g : ℕ → ℕ) (xs : List ℕ) (o : ℕ) → ((x : ℕ) → mem x xs ≡ true → p x ≡ true → q x ≡ true) → ((x : ℕ) → mem x xs ≡ true → f x ≤ g x) → mem o xs ≡ true → p o ≡ false → q o ≡ true → sum_where p f xs + g o ≤ sum_where q g xs
 sum_less p q f g [] o h k m nay yea = absurd (false≢true m)

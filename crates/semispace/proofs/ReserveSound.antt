@@ -1,5 +1,5 @@
 -- Reserving a place keeps the invariant.
-use Rattle.std.proofs.Common.{rules, ◌≡◌, ℕ, ◌+◌, ◌-◌, ◌*◌, ◌/◌, ◌%◌, ◌<◌, ◌≤◌, true, false, ◌&&◌, eqb, ltb, ◌≢◌, ◌⊎◌, List, [], ◌∷◌, ◌++◌, sym, refl, ap, ◌∙◌, subst, ap₂, inl, inr, add_assoc, arith}
+use Rattle.std.proofs.Common.{rules, ◌≡◌, ℕ, ◌+◌, ◌-◌, ◌*◌, ◌/◌, ◌%◌, ◌<◌, ◌≤◌, true, false, ◌&&◌, eqb, ltb, ◌≢◌, ◌⊎◌, List, [], ◌++◌, sym, refl, ap, ◌∙◌, subst, ap₂, inl, inr, add_assoc, arith}
 use Rattle.std.proofs.lemmas.Bool.{or_cases, or_from, or_left, or_right, and_left, and_right, lt-leb, le-ltb, ne_eqb, cases_eq, true≢false, false≢true}
 use Rattle.semispace.specs.declared.collector.Collector.{Collector}
 use Rattle.semispace.specs.declared.collector.Collector.TheVariants.{Rest, Slots, Scan, Field}
@@ -25,13 +25,7 @@ module _ (s : State) (l : Laid s.book s.memory s.halves) where
   pub front_below : (c : Collector) → At s c → resting c ≡ false → (front s.halves.base s.halves.size c ≤ next_place s) × (is_open c ≡ true → front s.halves.base s.halves.size c < next_place s)
   front_below Rest a r = absurd (true≢false r)
   front_below (Slots n) a r = (omega arith, λ e. absurd (false≢true e))
-  front_below (Scan at) a r = (
-    elim (mem_append at (the_places s) (next_place s ∷ []) a) [
-      | inl e ↦ omega (arith, places_inside _ _ _ l at e)
-      | inr e ↦ elim (mem_cases at (next_place s) [] e) [ inl d ↦ omega arith | inr d ↦ absurd (false≢true d) ]
-    ],
-    λ e. absurd (false≢true e),
-  )
+  front_below (Scan at) a r = search (rules, arith, mem_append, places_inside, mem_cases)
   front_below (Field c) a r = let x = places_inside _ _ _ l c.at a.0 in let y = size_two s.book s.memory c.at in (omega arith, λ e. omega arith)
 
 module _ (s : State) (S : Sound s) (going : resting s.collector ≡ false) (o : ℕ) (is_old : mem o (the_olds s) ≡ true) (none : place_of s o ≡ 0) where
@@ -160,11 +154,7 @@ module _ (s : State) (S : Sound s) (going : resting s.collector ≡ false) (o : 
   pub at_after : (c : Collector) → At s c → At (noted_state s o) c
   at_after Rest a = a
   at_after (Slots n) a = a
-  at_after (Scan at) a =
-      elim (mem_append at (the_places s) (next_place s ∷ []) a) [
-        | inl e ↦ mem_left at _ _ (places_kept at e)
-        | inr e ↦ elim (mem_cases at (next_place s) [] e) [ inl d ↦ mem_left at (the_places (noted_state s o)) (next_place (noted_state s o) ∷ []) (rw d place_there) | inr d ↦ absurd (false≢true d) ]
-      ]
+  at_after (Scan at) a = search (rules, arith, mem_append, mem_left, places_kept, mem_cases, place_there)
   at_after (Field c) a =
       let ne : c.from ≢ o = λ d. let z : place_of s o ≡ c.at + 1 = rw d at a.2 in omega (arith, none) in
       (places_kept c.at a.0, rw olds_after a.1, ap (λ v. v / 16) (tag_olds c.from a.1 ne) ∙ a.2, rw (sizes_of_news _ _ _ S.laid o is_old room_for c.at (in_news c.at a.0)) a.3)

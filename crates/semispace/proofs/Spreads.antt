@@ -1,5 +1,5 @@
 -- Records one after another in a run of words.
-use Rattle.std.proofs.Common.{◌≡◌, ℕ, zero, suc, ◌+◌, ◌/◌, ◌<◌, ◌≤◌, Bool, true, false, cond, eqb, ltb, ◌≢◌, ◌⊎◌, List, [], ◌∷◌, ◌++◌, get_or, sym, refl, ap, subst, ap₂, inl, inr, arith}
+use Rattle.std.proofs.Common.{rules, ◌≡◌, ℕ, zero, suc, ◌+◌, ◌/◌, ◌<◌, ◌≤◌, Bool, true, false, eqb, ltb, ◌≢◌, ◌⊎◌, List, [], ◌∷◌, ◌++◌, get_or, sym, refl, ap, subst, ap₂, inl, inr, arith}
 use Rattle.std.proofs.lemmas.Bool.{eqb-true, or_cases, or_left, or_right, ltb-true, eq-eqb, ne_eqb, cases_eq, cases_order, lt-ltb, le-ltb, false≢true}
 use Rattle.kinds.specs.Shapes.{Shape}
 use Rattle.semispace.specs.Layout.{size_at, mem, starts, Spread, total, placed}
@@ -155,9 +155,7 @@ total_append b m (x ∷ xs) ys = omega (arith, total_append b m xs ys)
 -- The sum of the placed: no tag changed, and one tag noted.
 pub placed_same : (b : List Shape) (m n : List ℕ) (xs : List ℕ) → ((x : ℕ) → mem x xs ≡ true → size_at b n x ≡ size_at b m x) → ((x : ℕ) → mem x xs ≡ true → get_or n (x + 1) 0 ≡ get_or m (x + 1) 0) → placed b n xs ≡ placed b m xs
 placed_same b m n [] h k = refl
-placed_same b m n (y ∷ ys) h k =
-    rw (h y (mem_head y ys), k y (mem_head y ys))
-    (ap (λ r. cond (eqb (get_or m (y + 1) 0 / 16) 0) 0 (size_at b m y) + r) (placed_same b m n ys (λ x e. h x (mem_tail x y ys e)) (λ x e. k x (mem_tail x y ys e))))
+placed_same b m n (y ∷ ys) h k = search (rules, arith, mem_head, mem_tail, placed_same b m n ys (λ x e. h x (mem_tail x y ys e)) (λ x e. k x (mem_tail x y ys e)))
 
 pub placed_more : (b : List Shape) (m n : List ℕ) (a to o : ℕ) (xs : List ℕ) → Spread b m a to xs → mem o xs ≡ true → ((x : ℕ) → mem x xs ≡ true → size_at b n x ≡ size_at b m x) → ((x : ℕ) → mem x xs ≡ true → x ≢ o → get_or n (x + 1) 0 ≡ get_or m (x + 1) 0) → get_or m (o + 1) 0 / 16 ≡ 0 → get_or n (o + 1) 0 / 16 ≢ 0 → placed b n xs ≡ placed b m xs + size_at b m o
 placed_more b m n a to o [] s i h k e d = absurd (let z : ◌≡◌ {A = ℕ} 0 1 = cc in omega arith)
@@ -181,10 +179,7 @@ module _ (b : List Shape) (m : List ℕ) where
   pub first_start : (f a to : ℕ) → a + total b m (starts b m f a to) ≡ to → mem a (starts b m f a to ++ (to ∷ [])) ≡ true
   unfolding starts
   first_start zero a to e = mem_first a to [] (omega arith)
-  first_start (suc f) a to e =
-      by_bool (ltb a to)
-      (λ t. rw t (mem_head a (starts b m f (a + size_at b m a) to ++ (to ∷ []))))
-      (λ t. let e2 : a + 0 ≡ to = rw t at e in rw t (mem_first a to [] (omega arith)))
+  first_start (suc f) a to e = search (rules, arith, mem_head, mem_first)
 
   pub next_start : (f a to x : ℕ) → a + total b m (starts b m f a to) ≡ to → mem x (starts b m f a to) ≡ true → mem (x + size_at b m x) (starts b m f a to ++ (to ∷ [])) ≡ true
   unfolding starts

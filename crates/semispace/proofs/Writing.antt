@@ -1,5 +1,5 @@
 -- A field is written at its home: what the graph shows after it.
-use Rattle.std.proofs.Common.{◌≡◌, ℕ, zero, suc, ◌+◌, ◌-◌, ◌%◌, ◌<◌, ◌≤◌, Bool, true, false, cond, not, ◌&&◌, ◌||◌, eqb, leb, ◌≢◌, ◌⊎◌, List, [], ◌∷◌, map, get_or, take, set, sym, refl, ap, ◌∙◌, subst, ap₂, inl, inr, arith}
+use Rattle.std.proofs.Common.{rules, ◌≡◌, ℕ, zero, suc, ◌+◌, ◌-◌, ◌%◌, ◌<◌, ◌≤◌, Bool, true, false, cond, not, ◌&&◌, ◌||◌, eqb, leb, ◌≢◌, ◌⊎◌, List, [], ◌∷◌, map, get_or, take, set, sym, refl, ap, ◌∙◌, subst, ap₂, inl, inr, arith}
 use Rattle.std.proofs.lemmas.Bool.{eqb-false, or_left, or_right, le-leb, and_from, and_parts, cond-true, cond-false, eq-eqb, ne_eqb, cases_eq, false≢true}
 use Rattle.std.specs.List.{range_with_len}
 use Rattle.graph.specs.Graph.{size, Graph}
@@ -88,9 +88,7 @@ module _ (s : State) (S : Sound s) (K : Known s) where
 
 counting_set : (f g : ℕ → ℕ) (a n k : ℕ) (m : ℕ) → k < n → f (a + k) ≡ m → ((j : ℕ) → a ≤ j → j < a + n → (j ≡ a + k → ⊥) → f j ≡ g j) → map f (range_with_len a n) ≡ set (map g (range_with_len a n)) k m
 counting_set f g a zero k m l e h = absurd (omega arith)
-counting_set f g a (suc n) zero m l e h =
-    let e2 : f a ≡ m = (let q : a + 0 ≡ a = omega arith in rw q at e) in
-    ap₂ (λ y ys. y ∷ ys) e2 (counting_same f g (a + 1) n (λ j p q. h j (omega arith) (omega arith) (λ d. omega arith)))
+counting_set f g a (suc n) zero m l e h = search (rules, arith, counting_same)
 counting_set f g a (suc n) (suc k) m l e h =
     let e2 : f (a + 1 + k) ≡ m = (let q : a + suc k ≡ a + 1 + k = omega arith in rw q at e) in
     ap₂ (λ y ys. y ∷ ys) (h a (omega arith) (omega arith) (λ d. omega arith)) (counting_set f g (a + 1) n k m (omega arith) e2 (λ j p q ne. h j (omega arith) (omega arith) (λ d. ne (omega arith))))

@@ -147,6 +147,7 @@ put_slot s n r = set_slots (forwarded_state s r) (slice_set s.slots n (forwarded
 abbrev pub passed : State → ℕ → State
 passed s n = set_collector (put_slot s n (slice_index s.slots n)) (slots_from s (n + 1))
 
+-- The open record, by the addresses of its new and its old copy, and the field that is moved next.
 abbrev pub cursor : ℕ → ℕ → ℕ → Cursor
 cursor at from i = record { at = at; from = from; field = i }
 
