@@ -15,6 +15,7 @@ pub mod steps;
 
 /// Lent words, and the registers over them.
 pub struct Store<'m> {
+    // Kept: lent words, read and written at computed places; that is a rule of the project.
     pub memory: &'m mut [u32],
     pub slots: Slots,
     book: SealedBook,
@@ -30,7 +31,7 @@ pub struct Store<'m> {
 }
 
 /// Letting a heap go leaves the lent words as they were.
-// Kept: a derived `Drop` has no contract, and this one promises what the lender finds.
+// Kept: a derived `Drop` has no contract, and this one promises what the lender finds, of each heap's own store.
 impl<'m> Drop for Store<'m> {
     fn drop(self)
         ensures { self.exit.0.now ≡ self.entry.memory.now }

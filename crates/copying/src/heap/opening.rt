@@ -14,6 +14,9 @@ use kinds::book::SealedBook;
 use kinds::refusal::Refusal;
 use semispace::store::Store;
 
+// Kept: as the straight heap has it; three lines of code, whose contracts speak of this heap's own state. A trait for them
+// would have to be imported by every program that opens a heap. Slots, book and first number stay single arguments, as
+// programs hand them in.
 impl<'m> Copying<'m> {
     /// Opens a heap over the lent words. A bad opening gives a heap of no slots and no words, over the same lent words.
     pub fn open(memory: &'m mut [u32], slots: u32, book: SealedBook, first: u32) -> Copying<'m>

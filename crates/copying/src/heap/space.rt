@@ -7,9 +7,10 @@ ghost use Rattle.semispace.specs.Callings.{Acted};
 ghost use Rattle.semispace.specs.Bounds.{numbers_bounded};
 
 use super::Copying;
-use graph::layout::HEAD;
+use graph::layout::LAST_NUMBER;
 use graph::space::Space;
 
+// Kept: as the straight heap has it, function by function; each is one line and promises words of its own heap's state.
 impl<'m> Space for Copying<'m> {
     ghost meaning = { λ h. meaning_of (view h.store) };
 
@@ -28,7 +29,7 @@ impl<'m> Space for Copying<'m> {
     }
 
     fn charge(&self, kind: u32) -> u32 {
-        HEAD + self.store.fields_of(kind)
+        self.store.charge(kind)
     }
 
     fn room(&self) -> u32 {
@@ -39,8 +40,9 @@ impl<'m> Space for Copying<'m> {
         self.store.spare
     }
 
+    // Kept: 64 bits and no Option, since the next number after the last one is a number of the model.
     fn spent(&self) -> bool {
-        self.store.next > u32::MAX as u64
+        self.store.next > LAST_NUMBER
     }
 
     fn vacant(&self, slot: u32) -> bool {

@@ -8,7 +8,7 @@ ghost use Rattle.semispace.specs.Callings.{words_after, held_at, Held, Linkable,
 ghost use Rattle.graph.specs.Calls.Call.{make as Make, write as Write, follow as Follow, link as Link, hold as Hold, drop as Dropped};
 
 use super::Store;
-use graph::layout::HEAD;
+use graph::layout::charge;
 
 impl<'m> Store<'m> {
     /// Makes a record of the kind in the slot, at the high end of the new half; gives its number.
@@ -20,7 +20,7 @@ impl<'m> Store<'m> {
         let number = self.next as u32;
         let at = self.place_record(kind, number);
         self.next += 1;
-        self.spare -= HEAD + self.book.fields(kind);
+        self.spare -= charge(&self.book, kind);
         self.slots.set(slot, at + 1);
         number
     }
@@ -31,7 +31,7 @@ impl<'m> Store<'m> {
         requires { Held (view self.now) slot field }
         ensures { result ≡ value (view self.now) (held_at (view self.now) slot) field }
     {
-        self.field(self.slot(slot) - 1, field)
+        self.field(self.held_at(slot), field)
     }
 
     /// Sets a word field of the slot's record.
@@ -39,7 +39,7 @@ impl<'m> Store<'m> {
         requires { Held (view self.old) slot field }
         ensures { view self.new ≡ words_after (view self.old) (Write slot field word) }
     {
-        let at = self.slot(slot) - 1;
+        let at = self.held_at(slot);
         self.put_field(at, field, word);
     }
 
@@ -67,7 +67,7 @@ impl<'m> Store<'m> {
         requires { Linkable (view self.old) slot field from }
         ensures { view self.new ≡ words_after (view self.old) (Link slot field from) }
     {
-        let at = self.slot(slot) - 1;
+        let at = self.held_at(slot);
         let held = self.slot(from);
         let put = self.forwarded(held);
         self.put_field(at, field, put);

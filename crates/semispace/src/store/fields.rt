@@ -7,10 +7,11 @@ ghost use Rattle.semispace.specs.Words.{both_halves, word_at, put_at, front as F
 
 use super::Store;
 use crate::collector::Collector;
-use graph::layout::HEAD;
+use graph::layout::{HEAD, charge};
+use graph::words::clear;
 
 impl<'m> Store<'m> {
-    /// Where the places begin that have not been closed, and how many fields of the first have been copied.
+    /// Where the places begin that have not been closed.
     pub(super) fn front(&self) -> u32
         ensures { result ≡ Front self.now.halves.base self.now.halves.size self.now.collector }
     {
@@ -22,6 +23,7 @@ impl<'m> Store<'m> {
         }
     }
 
+    /// How many fields of the first of them have been copied.
     fn filled(&self) -> u32
         ensures { result ≡ Filled self.now.collector }
     {
@@ -85,26 +87,17 @@ impl<'m> Store<'m> {
         self.put(place, word);
     }
 
-    fn clear_fields(&mut self, at: u32, fields: u32)
-        requires { at + 2 + fields ≤ both_halves (view self.old) }
-        ensures { view self.new ≡ set_memory (view self.old) (cleared (view self.old).memory (at + 2) fields) }
-    {
-        let first = (at + HEAD) as usize;
-        self.memory[first..first + fields as usize].fill(0);
-    }
-
     /// Puts a record of the kind at the high end; gives its address.
     pub(super) fn place_record(&mut self, kind: u32, number: u32) -> u32
         requires { self.old.halves.low + (2 + fields_of (view self.old).book kind) ≤ self.old.halves.high }
         ensures at { result ≡ made_at (view self.old) kind }
         ensures after { view self.new ≡ made_record (view self.old) kind number }
     {
-        let fields = self.book.fields(kind);
-        self.halves = self.halves.lowered(HEAD + fields);
+        self.halves = self.halves.lowered(charge(&self.book, kind));
         let at = self.halves.base + self.halves.high;
         self.put(at, number);
         self.put(at + 1, kind);
-        self.clear_fields(at, fields);
+        clear(self.memory, at + HEAD, self.book.fields(kind));
         at
     }
 }

@@ -35,7 +35,7 @@ impl<'m> Store<'m> {
             memory,
             slots,
             book,
-            next: first as u64,
+            next: u64::from(first),
             spare: size,
             halves,
             collector: Collector::Rest,

@@ -8,6 +8,7 @@ ghost use Rattle.semispace.specs.Callings.{held_at, Full, Numbered};
 
 use super::Store;
 use crate::collector::Collector;
+use graph::layout::charge;
 
 impl<'m> Store<'m> {
     /// The number of kinds.
@@ -17,12 +18,11 @@ impl<'m> Store<'m> {
         self.book.kinds()
     }
 
-    /// The number of fields of a kind of the book.
-    pub fn fields_of(&self, kind: u32) -> u32
-        ensures fields { result ≡ fields_of (view self.now).book kind }
-        ensures few { result ≤ 62 }
+    /// The charge of a kind.
+    pub fn charge(&self, kind: u32) -> u32
+        ensures { result ≡ 2 + fields_of (view self.now).book kind }
     {
-        self.book.fields(kind)
+        charge(&self.book, kind)
     }
 
     /// The reference that a slot holds: 0, or 1 more than an address.
@@ -32,12 +32,20 @@ impl<'m> Store<'m> {
         self.slots.get(slot)
     }
 
+    /// The address of a full slot's record.
+    pub(super) fn held_at(&self, slot: u32) -> u32
+        requires { 0 < slice_index (view self.now).slots slot }
+        ensures { result ≡ held_at (view self.now) slot }
+    {
+        self.slot(slot) - 1
+    }
+
     /// The number of fields of a full slot's record.
     pub fn fields_held(&self, slot: u32) -> u32
         requires { Full (view self.now) slot }
         ensures { result ≡ fields_at (view self.now) (held_at (view self.now) slot) }
     {
-        self.book.fields(self.kind_at(self.slot(slot) - 1))
+        self.book.fields(self.kind_at(self.held_at(slot)))
     }
 
     /// Is a field of a full slot's record a reference?
@@ -45,7 +53,7 @@ impl<'m> Store<'m> {
         requires { Full (view self.now) slot }
         ensures { result ≡ Refers (view self.now).book (kind_at (view self.now) (held_at (view self.now) slot)) field }
     {
-        self.book.refers(self.kind_at(self.slot(slot) - 1), field)
+        self.book.refers(self.kind_at(self.held_at(slot)), field)
     }
 
     /// Has the place at `at` been opened? Records made in the cycle count as opened.
@@ -76,7 +84,7 @@ impl<'m> Store<'m> {
         ensures number { result.0 ≡ Number (view self.now) (held_at (view self.now) slot) }
         ensures kind { result.1 ≡ kind_at (view self.now) (held_at (view self.now) slot) }
     {
-        let at = self.slot(slot) - 1;
+        let at = self.held_at(slot);
         (self.number(at), self.kind_at(at))
     }
 }

@@ -7,7 +7,7 @@ ghost use Rattle.semispace.specs.Words.{both_halves, word_at, put_at, kind_at, p
 use super::Store;
 use crate::collector::{Collector, Target, Transition};
 use crate::cursor::Cursor;
-use graph::layout::HEAD;
+use graph::layout::{HEAD, charge};
 use kinds::book::MAX_KINDS;
 
 /// A record's second word is its kind and this many times the reference of its place.
@@ -71,7 +71,7 @@ impl<'m> Store<'m> {
         self.put(place, from + 1);
         self.put(place + 1, kind);
         self.put(from + 1, kind + KINDS * (place + 1));
-        self.halves = self.halves.grown(HEAD + self.book.fields(kind));
+        self.halves = self.halves.grown(charge(&self.book, kind));
         place + 1
     }
 

@@ -7,7 +7,7 @@ ghost use Rattle.straight.specs.Words.{Acted};
 ghost use Rattle.straight.specs.Bounds.{numbers_bounded};
 
 use super::Straight;
-use graph::layout::charge;
+use graph::layout::{LAST_NUMBER, charge};
 use graph::space::Space;
 
 // Kept: as the copying heap has it, function by function; each is one line and promises words of its own heap's state.
@@ -42,7 +42,7 @@ impl<'m> Space for Straight<'m> {
 
     // Kept: 64 bits and no Option, since the next number after the last one is a number of the model.
     fn spent(&self) -> bool {
-        self.store.next > u64::from(u32::MAX)
+        self.store.next > LAST_NUMBER
     }
 
     fn vacant(&self, slot: u32) -> bool {

@@ -1,15 +1,15 @@
 //! What the slots and the words say of a record.
 
-ghost use Rattle.std.specs.Prelude.{◌≡◌, ◌+◌};
+ghost use Rattle.std.specs.Prelude.{◌≡◌, ◌+◌, ◌<◌};
 ghost use Rattle.straight.specs.Stored.{state};
-ghost use Rattle.straight.specs.Words.{Full, place as Place, word_at};
+ghost use Rattle.straight.specs.Words.{Full, place as Place, reference, word_at};
 
 use super::Store;
 
 impl<'m> Store<'m> {
     /// The address of a full slot's record.
     pub(crate) fn place(&self, slot: u32) -> u32
-        requires { Full (state self.now) slot }
+        requires { 0 < reference (state self.now) slot }
         ensures { result ≡ Place (state self.now) slot }
     {
         self.slots.get(slot) - 1
