@@ -12,7 +12,7 @@ use Rattle.keeper.specs.declared.keeper.NotSettled.{NotSettled}
 use Rattle.keeper.specs.declared.keeper.NotSettled.TheVariants.{WrongBill}
 use Rattle.keeper.specs.Keeping.{State, call, settle, Said, told, settled, unsettled, owed, Event}
 
--- The state of a keeper, from what the bounds of its heap and its pacing say of them.
+-- The state of a keeper, from what its heap's and its pacing's traits say of them.
 abbrev pub state : {H P : Type 0} → Heap.Ghosts H → Pacing.Ghosts P → Keeper H P → State
 state h p k = record { heap = h.meaning k.heap; rate = p.rate k.pacing; asks = p.asks k.pacing; steps = k.steps; words = k.words; bill = k.bill }
 

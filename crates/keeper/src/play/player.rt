@@ -16,6 +16,7 @@ pub(super) struct Player<H, P> {
     pub bills: Vec<Bill>,
 }
 
+// Kept: room for one more bill is asked and no invariant, since a make takes it and the loop over the orders counts it.
 impl<H: Collected, P: Pacing> Player<H, P> {
     /// A make, whose bill joins those held.
     fn make(&mut self, slot: u32, kind: u32) -> Result<Reply, Refusal>

@@ -10,6 +10,7 @@ ghost use Rattle.graph.specs.Calls.Call.{make as Make, write as Write, follow as
 use super::Store;
 use graph::layout::charge;
 
+// Kept: `Held` stands in several contracts as a named fact and not in a type, since it is of a store and a caller's numbers.
 impl<'m> Store<'m> {
     /// Makes a record of the kind in the slot, at the high end of the new half; gives its number.
     pub fn make(&mut self, slot: u32, kind: u32) -> u32

@@ -10,6 +10,8 @@ use crate::collector::Collector;
 use graph::layout::{HEAD, charge};
 use graph::words::clear;
 
+// Kept: `Found` stands in several contracts as a named fact and not in a type, since it is of a store, an address and a
+// field; these two stay two numbers, since each call makes them anew.
 impl<'m> Store<'m> {
     /// Where the places begin that have not been closed.
     pub(super) fn front(&self) -> u32

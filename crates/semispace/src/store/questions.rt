@@ -10,6 +10,7 @@ use super::Store;
 use crate::collector::Collector;
 use graph::layout::charge;
 
+// Kept: `Full` stands in several contracts as a named fact and not in a type, since it is of a store and a caller's number.
 impl<'m> Store<'m> {
     /// The number of kinds.
     pub fn kinds(&self) -> u32

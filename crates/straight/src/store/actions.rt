@@ -9,6 +9,7 @@ use super::Store;
 use graph::layout::HEAD;
 use graph::words::clear;
 
+// Kept: `Held` stands in several contracts as a named fact and not in a type, since it is of a store and a caller's numbers.
 impl<'m> Store<'m> {
     /// Lays a record of the kind at the top, and puts it into the slot; gives its number.
     pub(crate) fn lay(&mut self, slot: u32, kind: u32) -> u32

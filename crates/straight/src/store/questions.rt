@@ -6,6 +6,7 @@ ghost use Rattle.straight.specs.Words.{Full, place as Place, reference, word_at}
 
 use super::Store;
 
+// Kept: `Full` stands in several contracts as a named fact and not in a type, since it is of a store and a caller's number.
 impl<'m> Store<'m> {
     /// The address of a full slot's record.
     pub(crate) fn place(&self, slot: u32) -> u32
