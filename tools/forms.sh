@@ -15,7 +15,7 @@ grep -rhE '\bfn [a-z_]+' crates/*/src --include=*.rt | grep -vE '^ *//' | grep -
 src '\bfor [a-z_]+ in [^ ]*\.\.|\bwhile ' >"$t"; show "3 loops over a range or with while" "$t"
 src '\bimpl(<[^>]*>)? (PartialEq|Eq|PartialOrd|Ord|Clone|Copy|Debug|Display|Default|Drop|From<|TryFrom<)|fn (from_[a-z]+|to_[a-z]+|into_[a-z]+|number|row|word|done|known)\b' >"$t"; show "4 comparisons, copies, conversions and printing by hand" "$t"
 grep -rhoE '(requires|ensures) ?[a-z_]* ?\{.*\}' crates/*/src --include=*.rt | sed -E 's/\.(old|now|new)\b//g; s/(requires|ensures) [a-z_]+ /\1 /' | sort | uniq -c | awk '$1>=3' >"$t"; show "5a clauses that stand three times or more" "$t"
-grep -rhoE 'state H.Heap.meaning P.Pacing.rate P.Pacing.asks|state H.Heap P.Pacing' crates/*/src --include=*.rt | sort | uniq -c >"$t"; show "5b ghost arguments that travel together" "$t"
+src 'H.Heap.meaning P.Pacing.rate P.Pacing.asks' >"$t"; show "5b clauses with three ghost arguments that travel together" "$t"
 src '\[[A-Za-z0-9_]+; [A-Z_]+\]|_[0-9]: u32|count: u32|runs: u32' >"$t"; show "6 arrays in structs, single numbered fields and counts" "$t"
 src 'match [a-z_.]*(order|fitting\(\)|collector)\b|\bdyn |Fn(Once|Mut)?\(' >"$t"; show "7 switches on a step or a call, closures and dyn" "$t"
 for c in crates/*; do
