@@ -17,7 +17,7 @@ src '\bimpl(<[^>]*>)? (PartialEq|Eq|PartialOrd|Ord|Clone|Copy|Debug|Display|Defa
 grep -rhoE '(requires|ensures) ?[a-z_]* ?\{.*\}' crates/*/src --include=*.rt | sed -E 's/\.(old|now|new)\b//g; s/(requires|ensures) [a-z_]+ /\1 /' | sort | uniq -c | awk '$1>=3' >"$t"; show "5a clauses that stand three times or more" "$t"
 src 'H.Heap.meaning P.Pacing.rate P.Pacing.asks' >"$t"; show "5b clauses with three ghost arguments that travel together" "$t"
 src '\[[A-Za-z0-9_]+; [A-Z_]+\]|_[0-9]: u32|count: u32|runs: u32' >"$t"; show "6 arrays in structs, single numbered fields and counts" "$t"
-src 'match [a-z_.]*(order|fitting\(\)|collector)\b|\bdyn |Fn(Once|Mut)?\(' >"$t"; show "7 switches on a step or a call, closures and dyn" "$t"
+src 'match [a-z_.]*(order\b|fitting\(\)|collector\b)|\bdyn |Fn(Once|Mut)?\(' >"$t"; show "7 switches on a step or a call, closures and dyn" "$t"
 for c in crates/*; do
     printf '== 8 %s: %s answers in %s files, %s lines of lemmas\n' "$(basename "$c")" \
         "$(find "$c/proofs" -mindepth 2 -name '*.antt' 2>/dev/null | xargs -r cat | grep -cE '^(abbrev )?pub ')" \

@@ -10,7 +10,7 @@ use kinds::refusal::Refusal;
 
 /// Slots numbered from 0. Each holds a reference: 0 if it is empty, else 1 more than the address of its record.
 // Kept: 64 places and a count, since a heap lies in fixed memory; 0 is an empty slot, since a call copies words of the
-// lent memory into slots and back, and these write references so.
+// lent memory into slots and back, and these words write an empty reference as 0.
 #[derive(Clone, Copy)]
 pub struct Slots {
     held: [u32; MAX_SLOTS],

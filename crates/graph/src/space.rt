@@ -10,7 +10,8 @@ ghost use Rattle.graph.specs.Calls.Answer.{word as Word, done, known};
 ghost use Rattle.graph.specs.Calls.Call.{make as Make, read as Read, write as Write, follow as Follow, link as Link, hold as Hold, drop as Dropped, look as Look, spare as Spare};
 
 /// A store of records behind slots. Its questions and actions ask what the tests of a call have found; programs use `Heap`.
-// Kept: that a slot is there and full is asked by three questions, since it is of a space and a caller's number.
+// Kept: that a slot is there is asked by three questions, and that it is full by two, since both are of a space and a
+// caller's number.
 pub trait Space {
     /// What the space means.
     ghost meaning: { Self → Meaning };

@@ -10,7 +10,7 @@ pub struct Bill {
 }
 
 /// Why a settle was refused.
-// Kept: an enum of one case, since it is the error of a settle, hands the bill back, and is matched by programs.
+// Kept: an enum of one case, since it is public, a program may match it, and it hands the bill back.
 #[derive(Debug)]
 pub enum NotSettled {
     /// 9: the bill's number is not the open one, or none is open. The bill is handed back.

@@ -19,7 +19,8 @@ pub enum Order {
 }
 
 /// What an order came to.
-// Kept: one enum and no Result, since programs match it, and a settle that is refused and an order that is no call are no Refusal.
+// Kept: one enum and no Result, since it is public and a program may match it; a refused settle and an order that is no
+// call are no Refusal.
 #[derive(Clone, Copy, PartialEq, Eq, Debug)]
 pub enum Reply {
     /// The call was made.

@@ -30,7 +30,7 @@ impl ByMark {
     }
 }
 
-// Kept: the first three members are those of by-word, each one name long; the answer and its law differ.
+// Kept: rate, some, few and enough stand as in by-word, each one line, since each impl gives its own; asks and owed differ.
 impl Pacing for ByMark {
     ghost rate = { λ p. p.rate.number };
 

@@ -4,7 +4,7 @@ ghost use Rattle.std.specs.Prelude.{◌≡◌, ◌+◌, ◌-◌, ◌^◌, ◌<�
 ghost use Rattle.semispace.specs.Words.{grown as Grown, swapped as Swapped, lowered as Lowered, leads_new};
 
 /// The halves of memory: their size, where the new one begins, what is taken of it at its two ends, and what was taken of the old one.
-// Kept: four ends and not two pairs, since each transition but Start sets one of them alone, and would build a pair anew.
+// Kept: four ends and not two pairs, since each change but that of Start sets one of them alone, and would build a pair anew.
 #[derive(Clone, Copy, Debug, PartialEq, Eq)]
 pub struct Halves {
     pub size: u32,

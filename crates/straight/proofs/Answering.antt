@@ -51,7 +51,7 @@ module _ (s : State) (h : ∥ Whole s ∥₁) where
       let i : s.top ≤ s.room = w.inside in
       let f : s.room ≤ length s.memory = w.fits in
       let m : s.room ≤ 16384 = w.small in
-      record { few = w.few; slot = l; full = z; inside = omega arith; small = omega arith; kind = w.records.kinds (place s a) (slot_place s w a l z) }
+      record { full = z; inside = omega arith; small = omega arith }
 
   pub full_from : (a : ℕ) → a < length (meaning_of s).graph.slots → 0 < slot (meaning_of s).graph a → Full s a
   full_from a l z =
@@ -79,11 +79,11 @@ module _ (s : State) (h : ∥ Whole s ∥₁) where
   pub look_full : (a : ℕ) → refusal (meaning_of s) (look a) ≡ 0 → 0 < reference s a → Full s a
   look_full a f z = full_at a (count_below s w a (allowed s w (look a) f)) z
 
-  pub make_room : (a k : ℕ) → refusal (meaning_of s) (make a k) ≡ 0 → Room s a k
+  pub make_room : (a k : ℕ) → refusal (meaning_of s) (make a k) ≡ 0 → Room s k
   make_room a k f =
       let g = fitting s w a k f in
       let r : 2 + size s.book k ≤ s.room - s.top = g.charge in
       let i : s.top ≤ s.room = w.inside in
       let x : s.room ≤ length s.memory = w.fits in
       let m : s.room ≤ 16384 = w.small in
-      record { few = w.few; slot = g.slot; kind = g.kind; number = g.number; fits = omega arith; small = omega arith }
+      record { number = g.number; fits = omega arith; small = omega arith }

@@ -53,7 +53,7 @@ module _ (s : State) (w : Whole s) where
       let x : s.top ≤ s.room = w.inside in
       let y : s.room ≤ length s.memory = w.fits in
       let v : s.room ≤ 16384 = w.small in
-      record { few = w.few; slot = m.slot; full = m.full; inside = omega arith; small = omega arith }
+      record { full = m.full; inside = omega arith; small = omega arith }
 
   field_value : (a i : ℕ) (t : Bool) → Met a i t → get_or (held (raw_of s) a).fields i 0 ≡ cond t (name s.memory (word_at s (spot s a i))) (word_at s (spot s a i))
   unfolding view

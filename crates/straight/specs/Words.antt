@@ -71,27 +71,20 @@ abbrev pub Acted : State → Call → Reply → State → Type 0
 Acted s c (gave x) t = (x ≡ words_answer s c) × (t ≡ words_after s c)
 Acted s c (refused n) t = t ≡ s
 
--- What an action asks: its slots are there, and the words that it reads and writes lie in memory.
+-- What an action asks: its slot is full, and the word that it reads or writes lies in memory.
 pub record Held (s : State) (a i : ℕ) : Type 0 where
-  pub few : s.count ≤ 64
-  pub slot : a < s.count
   pub full : 0 < reference s a
   pub inside : spot s a i < length s.memory
   pub small : spot s a i < 16384
 
--- A full slot: the two words before the fields of its record lie in memory, and its kind is in the book.
+-- A full slot: the two words before the fields of its record lie in memory.
 pub record Full (s : State) (a : ℕ) : Type 0 where
-  pub few : s.count ≤ 64
-  pub slot : a < s.count
   pub full : 0 < reference s a
   pub inside : place s a + 1 < length s.memory
   pub small : place s a + 1 < 16384
-  pub kind : word_at s (place s a + 1) < length s.book
 
-pub record Room (s : State) (a k : ℕ) : Type 0 where
-  pub few : s.count ≤ 64
-  pub slot : a < s.count
-  pub kind : k < length s.book
+-- A number is left, and there is room for a record of kind k.
+pub record Room (s : State) (k : ℕ) : Type 0 where
   pub number : s.next ≤ 4294967295
   pub fits : s.top + (2 + size s.book k) ≤ length s.memory
   pub small : s.top + (2 + size s.book k) ≤ 16384

@@ -11,6 +11,7 @@ use crate::halves::Halves;
 use graph::slots::Slots;
 use kinds::book::SealedBook;
 
+// Kept: as the straight heap's store has it, where the registers are others.
 impl<'m> Store<'m> {
     /// Empty slots over two halves of the lent words; no slots and halves of no words where the opening is bad.
     pub fn open(memory: &'m mut [u32], slots: u32, book: SealedBook, first: u32) -> Store<'m>

@@ -13,7 +13,8 @@ use kinds::book::MAX_KINDS;
 /// A record's second word is its kind and this many times the reference of its place.
 const KINDS: u32 = MAX_KINDS as u32;
 
-// Kept: that an address lies in the halves is asked where it is used, since it is of a store and the address.
+// Kept: that an address lies in the halves is asked where it is used, since it is of a store and the address; `word` and
+// `put` as the straight heap's store has them, each one line, since they promise words of their own state.
 impl<'m> Store<'m> {
     pub(super) fn word(&self, at: u32) -> u32
         requires { at < both_halves (view self.now) }

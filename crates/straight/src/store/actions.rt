@@ -13,7 +13,7 @@ use graph::words::clear;
 impl<'m> Store<'m> {
     /// Lays a record of the kind at the top, and puts it into the slot; gives its number.
     pub(crate) fn lay(&mut self, slot: u32, kind: u32) -> u32
-        requires { Room (state self.old) slot kind }
+        requires { Room (state self.old) kind }
         ensures number { result ≡ (state self.old).next }
         ensures after { state self.new ≡ words_after (state self.old) (Make slot kind) }
     {

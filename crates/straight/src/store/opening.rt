@@ -9,6 +9,7 @@ use super::Store;
 use graph::slots::Slots;
 use kinds::book::SealedBook;
 
+// Kept: as the copying heap's store has it, where the registers are others.
 impl<'m> Store<'m> {
     /// Empty slots over the lent words; no slots and no room where the opening is bad.
     pub(crate) fn open(memory: &'m mut [u32], slots: u32, book: SealedBook, first: u32) -> Store<'m>

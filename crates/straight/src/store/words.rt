@@ -7,6 +7,7 @@ ghost use Rattle.straight.specs.Words.{with_memory, word_at};
 
 use super::Store;
 
+// Kept: as the copying heap's store has them; each is one line and promises words of its own state.
 impl<'m> Store<'m> {
     /// The word at an address.
     pub(crate) fn word(&self, at: u32) -> u32
