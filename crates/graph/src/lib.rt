@@ -2,12 +2,14 @@
 
 #![tactic(auto)]
 
+pub mod actions;
 mod calls;
 pub mod collected;
 pub mod counting;
 pub mod heap;
 pub mod layout;
 mod opening;
+pub mod record_space;
 mod refusals;
 pub mod slots;
 pub mod space;
