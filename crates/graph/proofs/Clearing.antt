@@ -9,6 +9,14 @@ use Rattle.std.proofs.Math.Seq.{paste}
 use borrow.Rule.Slice.PartMut.{put_mid}
 use Rattle.graph.specs.Clearing.{cleared}
 
+pub cleared_more : (m : List ℕ) (a n : ℕ) → cleared m a (n + 1) ≡ set (cleared m a n) (a + n) 0
+unfolding cleared
+cleared_more m a n = rw (add-one n)
+
+pub cleared_none : (m : List ℕ) (a : ℕ) → cleared m a 0 ≡ m
+unfolding cleared
+cleared_none m a = refl
+
 pub cleared_length : (m : List ℕ) (a n : ℕ) → length (cleared m a n) ≡ length m
 unfolding cleared
 cleared_length m a zero = refl

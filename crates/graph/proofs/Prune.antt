@@ -18,6 +18,16 @@ pub reached_same : (book : List Shape) (g h : Graph) → Same book g h → {n : 
 reached_same book g h s (by_slot a l e z) = by_slot a (subst (λ xs. a < length xs) (sym s.slots) l) (ap (λ xs. get_or xs a 0) s.slots ∙ e) z
 reached_same book g h s (by_field r i q m z) = by_field r (s.back r i (reached_same book g h s q)) (reached_same book g h s q) m z
 
+-- To agree on what is reached is an equivalence.
+pub same_sym : (book : List Shape) (g h : Graph) → Same book g h → Same book h g
+same_sym book g h s = record { slots = sym s.slots; next = sym s.next; there = λ r i q. s.back r i (reached_same book g h s q); back = λ r i q. s.there r i (reached_same book g h s q) }
+
+pub same_trans : (book : List Shape) (g h k : Graph) → Same book g h → Same book h k → Same book g k
+same_trans book g h k s t = record { slots = s.slots ∙ t.slots; next = s.next ∙ t.next; there = λ r i q. t.there r (s.there r i q) (same_reached book g h s q); back = λ r i q. s.back r (t.back r i (same_reached book g h s q)) q }
+
+pub same_refl : (book : List Shape) (g : Graph) → Same book g g
+same_refl book g = record { slots = refl; next = refl; there = λ r i q. i; back = λ r i q. i }
+
 -- A record of the canonical graph is one of the graph's, and reached; and the other way round.
 pub in_prune : (book : List Shape) (g : Graph) (r : Record) → r ∈ (prune book g).records → (r ∈ g.records) × Reached book g r.number
 unfolding prune

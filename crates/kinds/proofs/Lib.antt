@@ -1,2 +1,4 @@
 pub mod Ruling
 pub mod Sealed
+mod Adding
+pub mod Looking

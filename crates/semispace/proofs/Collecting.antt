@@ -8,7 +8,7 @@ use Rattle.semispace.specs.Sound.{Sound}
 use Rattle.semispace.specs.declared.collector.Transition.{Transition}
 use Rattle.semispace.specs.declared.collector.Transition.TheVariants.{Open, Done}
 use Rattle.semispace.specs.Dues.{slots_left, fields_left, due}
-use Rattle.semispace.specs.Graphs.{Known}
+use Rattle.semispace.specs.Graphs.{graph_of, Known}
 use Rattle.semispace.specs.Collected.{meaning_of}
 use Rattle.semispace.proofs.Spreads.{by_bool, total_append, placed_within}
 use Rattle.semispace.proofs.Ends.{done_sound, news_start}
@@ -56,6 +56,9 @@ module _ (s : State) (S : Sound s) (K : Known s) where
   -- A step is a step of the meaning.
   pub step_means : Step (meaning_of s) (meaning_of (stepped s))
   step_means = means_at s.collector refl (step_sound s S)
+
+  pub step_graph : graph_of (stepped s) ≡ graph_of s
+  step_graph = step_means.graph
 
 pub idle_means : (n : ℕ) (s : State) → Sound s → Known s → Idled (meaning_of s) n (idle_made n s) (idle_ended n s) (meaning_of (idle_state n s))
 unfolding idle_made idle_ended idle_state

@@ -1,5 +1,5 @@
 -- Where a field's value is: the new copy if the field has been copied, else the old one.
-use Rattle.std.proofs.Common.{rules, ◌≡◌, ℕ, ◌+◌, ◌-◌, ◌<◌, true, false, eqb, ◌≢◌, ◌⊎◌, ◌++◌, sym, refl, ap, ◌∙◌, subst, inl, inr, arith}
+use Rattle.std.proofs.Common.{rules, ◌≡◌, ℕ, zero, suc, ◌+◌, ◌-◌, ◌<◌, ◌≤◌, true, false, ◌&&◌, ◌||◌, eqb, ◌≢◌, ◌⊎◌, ◌++◌, sym, refl, ap, ◌∙◌, subst, inl, inr, arith}
 use Rattle.std.proofs.lemmas.Bool.{eqb-false, or_cases, or_from, and_left, and_right, le-leb, or_parts, eqb-true, ne_eqb, false≢true}
 use Rattle.graph.specs.Graph.{size}
 use Rattle.semispace.specs.declared.halves.Halves.{Halves}
@@ -8,9 +8,10 @@ use Rattle.semispace.specs.declared.collector.Collector.TheVariants.{Rest, Slots
 use Rattle.semispace.specs.Layout.{size_at, mem, mades}
 use Rattle.semispace.specs.Words.{home, source, State, front, own, resting, refers, kind_at, place_of, word_at}
 use Rattle.semispace.specs.Sound.{the_olds, the_news, the_places, size_of, good, is_open, opened_at, Twin, At, Sound, number, value, name, shown}
-use Rattle.semispace.proofs.Spreads.{by_bool, mem_append, mem_left}
-use Rattle.semispace.proofs.Reserving.{mades_inside}
-use Rattle.semispace.proofs.ReserveSound.{noted_state, good_more, words_news, words_olds, kind_olds, kind_news}
+use Rattle.semispace.specs.Dues.{edge, names_below}
+use Rattle.semispace.proofs.Spreads.{by_bool, mem_append, mem_left, size_two}
+use Rattle.semispace.proofs.Reserving.{mades_inside, sizes_of_news, sizes_of_olds}
+use Rattle.semispace.proofs.ReserveSound.{noted_state, good_more, room_for, words_news, words_olds, kind_olds, kind_news}
 use Rattle.semispace.proofs.ReserveAgree.{new_leads, old_leads_not, number_news, number_olds, home_olds, home_news}
 
 -- The home of a field is an old record, or a new one that owns the field; it has the kind of the record.
@@ -122,3 +123,21 @@ twin_number s S o p k t =
     by_bool (opened_at s.halves s.collector p)
     (λ e. rw (n, old_leads_not s S.laid o k, e) (t.head e))
     (λ e. let v : word_at s p - 1 ≡ o = let b = t.back e in omega arith in rw (n, old_leads_not s S.laid o k, e) (ap (word_at s) v))
+
+-- The edges between records are as before when a place is reserved.
+module _ (s : State) (S : Sound s) (going : resting s.collector ≡ false) (o : ℕ) (is_old : mem o (the_olds s) ≡ true) (none : place_of s o ≡ 0) where
+  names_kept : (a n i : ℕ) → mem a (the_news s ++ the_olds s) ≡ true → i + 2 ≤ size_of s a → names_below (noted_state s o) a n i ≡ names_below s a n i
+  unfolding names_below
+  names_kept a n zero k l = refl
+  names_kept a n (suc i) k l =
+      rw (kind_kept s S going o is_old none a k, shown_kept s S going o is_old none a i k (omega arith))
+      (ap (λ v. v || (refers s.book (kind_at s a) i && eqb (shown s a i) n)) (names_kept a n i k (omega arith)))
+
+  size_kept : (x : ℕ) → mem x (the_news s ++ the_olds s) ≡ true → size_of (noted_state s o) x ≡ size_of s x
+  size_kept x k = elim (mem_append x (the_news s) (the_olds s) k) [ inl e ↦ sizes_of_news _ _ _ S.laid o is_old (room_for s S going o is_old none) x e | inr e ↦ sizes_of_olds _ _ _ S.laid o is_old (room_for s S going o is_old none) x e ]
+
+  pub edge_kept : (a b : ℕ) → mem a (the_news s ++ the_olds s) ≡ true → mem b (the_news s ++ the_olds s) ≡ true → edge (noted_state s o) a b ≡ edge s a b
+  unfolding edge
+  edge_kept a b ka kb =
+      rw (size_kept a ka, number_kept s S going o is_old none b kb)
+      (names_kept a (number s b) (size_of s a - 2) ka (omega (arith, size_two s.book s.memory a)))

@@ -58,6 +58,9 @@ module _ (s : State) (S : Sound s) (K : Known s) (a k : ℕ) (known : k < 16) (k
   UK : Known u
   UK = set_known t TS TK a (at + 1) leads la
 
+  pub make_whole : Whole u
+  make_whole = record { sound = U; known = UK }
+
   -- the new record
   kind_new : kind_at t at ≡ k
   kind_new = let g = made_tag s S k s.next known fits in omega arith

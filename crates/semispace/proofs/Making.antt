@@ -1,8 +1,9 @@
 -- The words of a make, and what lies beside them.
-use Rattle.std.proofs.Common.{◌≡◌, ℕ, zero, suc, ◌+◌, ◌-◌, ◌%◌, ◌<◌, ◌≤◌, true, false, ltb, ◌⊎◌, List, ◌∷◌, length, set, sym, ap, ◌∙◌, inl, inr, arith}
+use Rattle.std.proofs.Common.{◌≡◌, ℕ, zero, suc, ◌+◌, ◌-◌, ◌%◌, ◌<◌, ◌≤◌, true, false, ltb, ◌⊎◌, List, ◌∷◌, length, get_or, set, sym, ap, ◌∙◌, inl, inr, arith}
 use Rattle.std.proofs.lemmas.List.{get_or-set_same, get_or-set_other, length-set}
-use Rattle.std.proofs.lemmas.Bool.{lt-ltb, le-ltb}
+use Rattle.std.proofs.lemmas.Bool.{cases_eq, lt-ltb, le-ltb}
 use Rattle.kinds.specs.Shapes.{Shape}
+use Rattle.graph.specs.Clearing.{cleared}
 use Rattle.graph.specs.Graph.{size}
 use Rattle.semispace.specs.Layout.{size_at, mem, starts, total, lows, highs, Laid}
 use Rattle.semispace.specs.Words.{State, word_at, fresh, made_at, made_record, fields_of}
@@ -12,6 +13,15 @@ use Rattle.semispace.proofs.Reserving.{places_inside, mades_inside, olds_inside,
 use Rattle.semispace.proofs.Putting.{all}
 use Rattle.semispace.proofs.Like.{the_mades}
 use Rattle.graph.proofs.Clearing.{cleared_length, cleared_under, cleared_over, cleared_at}
+
+pub cleared_in : (m : List ℕ) (a n x : ℕ) → a ≤ x → x < a + n → x < length m → get_or (cleared m a n) x 0 ≡ 0
+unfolding cleared
+cleared_in m a zero x l u q = absurd (omega arith)
+cleared_in m a (suc n) x l u q =
+    elim (cases_eq x (a + n)) [
+      | inl e ↦ rw e (get_or-set_same (cleared m a n) (a + n) 0 0 (let z = cleared_length m a n in omega arith))
+      | inr e ↦ get_or-set_other (cleared m a n) (a + n) x 0 0 e ∙ cleared_in m a n x l (omega arith) q
+    ]
 
 pub starts_enough : (b : List Shape) (m : List ℕ) (f a to : ℕ) → to ≤ a + f → starts b m (suc f) a to ≡ starts b m f a to
 unfolding starts

@@ -1,8 +1,8 @@
 -- Reaching by rounds over lists of addresses, and sums over what is reached.
-use Rattle.std.proofs.Common.{rules, ◌≡◌, ℕ, zero, suc, ◌+◌, ◌<◌, ◌≤◌, Bool, true, false, cond, not, ◌&&◌, ◌||◌, ◌⊎◌, List, [], ◌∷◌, length, inl, inr, arith}
+use Rattle.std.proofs.Common.{rules, ◌≡◌, ℕ, zero, suc, ◌+◌, ◌<◌, ◌≤◌, Bool, true, false, cond, not, ◌&&◌, ◌||◌, ◌⊎◌, List, [], ◌∷◌, length, sym, refl, ap, inl, inr, arith}
 use Rattle.std.proofs.lemmas.Bool.{or_cases, or_left, or_right, and_from, and_parts, or_parts, not-false, false≢true}
 use Rattle.semispace.specs.Layout.{mem}
-use Rattle.semispace.specs.Reach.{some, reach_in, reached}
+use Rattle.semispace.specs.Reach.{some, reach_in, reached, sum_where}
 use Rattle.semispace.proofs.Spreads.{by_bool, mem_cases, mem_head, mem_tail}
 
 pub some_from : (p : ℕ → Bool) (xs : List ℕ) (x : ℕ) → mem x xs ≡ true → p x ≡ true → some p xs ≡ true
@@ -114,3 +114,42 @@ module _ (u : List ℕ) (e : ℕ → ℕ → Bool) (r : ℕ → Bool) where
   pub least : (C : ℕ → Bool) → ((x : ℕ) → r x ≡ true → C x ≡ true) → ((y x : ℕ) → mem y u ≡ true → C y ≡ true → e y x ≡ true → C x ≡ true) → (x : ℕ) → reached u e r x ≡ true → C x ≡ true
   unfolding reached
   least C f g x h = least_in C f g (length u) x h
+
+pub same_bools : (x y : Bool) → (x ≡ true → y ≡ true) → (y ≡ true → x ≡ true) → x ≡ y
+same_bools true y f g = sym (f refl)
+same_bools false true f g = g refl
+same_bools false false f g = refl
+
+-- More roots that were reached already reach no more.
+module _ (u : List ℕ) (e : ℕ → ℕ → Bool) (r q : ℕ → Bool)
+    (wider : (x : ℕ) → r x ≡ true → q x ≡ true)
+    (found : (x : ℕ) → mem x u ≡ true → q x ≡ true → reached u e r x ≡ true) where
+  inside_or : (x : ℕ) → (mem x u ≡ true → reached u e r x ≡ true) → (not (mem x u) || reached u e r x) ≡ true
+  inside_or x f = by_bool (mem x u) (λ m. or_right (not (mem x u)) (reached u e r x) (f m)) (λ m. or_left (not (mem x u)) (reached u e r x) (rw m))
+
+  inside_out : (x : ℕ) → mem x u ≡ true → (not (mem x u) || reached u e r x) ≡ true → reached u e r x ≡ true
+  inside_out x m h = let v : (false || reached u e r x) ≡ true = rw m at h in v
+
+  pub reach_same : (x : ℕ) → mem x u ≡ true → reached u e q x ≡ reached u e r x
+  unfolding reached
+  reach_same x m =
+      same_bools (reached u e q x) (reached u e r x)
+      (λ h. inside_out x m (least u e q (λ y. not (mem y u) || reached u e r y)
+      (λ y k. inside_or y (λ n. found y n k))
+      (λ y z n k d. inside_or z (λ o. closed u e r y z n o (inside_out y n k) d)) x h))
+      (λ h. inside_out_q x (least_in u e r (λ y. reach_in u e q (length u) y || not (mem y u))
+      (λ y k. or_left (reach_in u e q (length u) y) (not (mem y u)) (roots u e q (length u) y (wider y k)))
+      (λ y z n k d. by_bool (mem z u)
+      (λ o. or_left (reach_in u e q (length u) z) (not (mem z u)) (closed u e q y z n o (un y n k) d))
+      (λ o. or_right (reach_in u e q (length u) z) (not (mem z u)) (rw o)))
+      (length u) x h) m)
+    where
+      un : (y : ℕ) → mem y u ≡ true → (reach_in u e q (length u) y || not (mem y u)) ≡ true → reach_in u e q (length u) y ≡ true
+      un y n k = elim (or_cases (reach_in u e q (length u) y) (not (mem y u)) k) [ inl a ↦ a | inr a ↦ let v : not true ≡ true = rw n at a in absurd (false≢true v) ]
+
+      inside_out_q : (y : ℕ) → (reach_in u e q (length u) y || not (mem y u)) ≡ true → mem y u ≡ true → reach_in u e q (length u) y ≡ true
+      inside_out_q y k n = un y n k
+
+pub sum_same : (p q : ℕ → Bool) (f g : ℕ → ℕ) (xs : List ℕ) → ((x : ℕ) → mem x xs ≡ true → p x ≡ q x) → ((x : ℕ) → mem x xs ≡ true → f x ≡ g x) → sum_where p f xs ≡ sum_where q g xs
+sum_same p q f g [] h k = refl
+sum_same p q f g (y ∷ ys) h k = rw (h y (mem_head y ys), k y (mem_head y ys)) (ap (λ r. cond (q y) (g y) 0 + r) (sum_same p q f g ys (λ x m. h x (mem_tail x y ys m)) (λ x m. k x (mem_tail x y ys m))))

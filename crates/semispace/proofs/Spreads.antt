@@ -204,3 +204,7 @@ module _ (b : List Shape) (m : List ℕ) where
   pub placed_none : (xs : List ℕ) → ((x : ℕ) → mem x xs ≡ true → get_or m (x + 1) 0 / 16 ≡ 0) → placed b m xs ≡ 0
   placed_none [] h = refl
   placed_none (y ∷ ys) h = let r = placed_none ys (λ x k. h x (mem_tail x y ys k)) in rw (eq-eqb (get_or m (y + 1) 0 / 16) 0 (h y (mem_head y ys))) (omega arith)
+
+pub spread_same : (b : List Shape) (m n : List ℕ) (a to : ℕ) (xs : List ℕ) → Spread b m a to xs → ((x : ℕ) → mem x xs ≡ true → size_at b n x ≡ size_at b m x) → Spread b n a to xs
+spread_same b m n a to [] s h = s
+spread_same b m n a to (y ∷ ys) s h = (s.0, rw (h y (mem_head y ys)) (spread_same b m n (y + size_at b m y) to ys s.1 (λ x k. h x (mem_tail x y ys k))))
