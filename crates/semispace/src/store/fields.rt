@@ -7,7 +7,7 @@ ghost use Rattle.semispace.specs.Words.{both_halves, word_at, put_at, front as F
 
 use super::Store;
 use crate::collector::Collector;
-use graph::layout::{HEAD, charge};
+use graph::layout::HEAD;
 use graph::words::clear;
 
 // Kept: `Found` stands in several contracts as a named fact and not in a type, since it is of a store, an address and a
@@ -95,11 +95,12 @@ impl<'m> Store<'m> {
         ensures at { result ≡ made_at (view self.old) kind }
         ensures after { view self.new ≡ made_record (view self.old) kind number }
     {
-        self.halves = self.halves.lowered(charge(&self.book, kind));
+        let fields = self.book.fields(kind);
+        self.halves = self.halves.lowered(HEAD + fields);
         let at = self.halves.base + self.halves.high;
         self.put(at, number);
         self.put(at + 1, kind);
-        clear(self.memory, at + HEAD, self.book.fields(kind));
+        clear(self.memory, at + HEAD, fields);
         at
     }
 }
